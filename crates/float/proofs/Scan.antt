@@ -1,0 +1,47 @@
+-- A loop that tests a list from the front keeps this: what is left from here passes exactly when the whole list does.
+use mathlib.Core.Path.{_≡_, refl}
+use mathlib.Core.Bool.{Bool, true, false, _&&_, false≢true}
+use mathlib.Core.List.{List, [], _∷_}
+use mathlib.Core.Logic.{_↔_}
+use Prim.Native.Nat.{ℕ, zero, suc, _+_, _≤_, _<_}
+use native.Mathlib.Nat.{not-suc-le-zero, le-of-suc-le-suc}
+use native.Mathlib.Numerals.{add-one}
+use native.Mathlib.Omega.{arith}
+use lib.ListN.{length, getD, drop, drop-of-length-le}
+use lib.Seq.{drop-cons}
+use Rattle.float.specs.Lists.{every}
+
+-- a test of two passes where both do
+pub both : (a b : Bool) → a && b ≡ true → (a ≡ true) × (b ≡ true)
+both true b e = (refl, e)
+both false b e = absurd (false≢true e)
+
+module _ {A : Type 0} (p : A → Bool) where
+  every-cons : (x : A) (xs : List A) → every p (x ∷ xs) ≡ (p x && every p xs)
+  unfolding every
+  every-cons x xs = refl
+
+  pub every-done : (l : List A) (i : ℕ) → length l ≤ i → every p (drop i l) ≡ true
+  unfolding every
+  every-done l i h = rw (drop-of-length-le l h)
+
+  pub every-pass : (l : List A) (i : ℕ) (d : A) → i < length l → p (getD l i d) ≡ true → every p (drop (i + 1) l) ≡ every p (drop i l)
+  every-pass l i d h e = rw (add-one, drop-cons l i d h, every-cons, e)
+
+  pub every-fail : (l : List A) (i : ℕ) (d : A) → i < length l → p (getD l i d) ≡ false → every p (drop i l) ≡ false
+  every-fail l i d h e = rw (drop-cons l i d h, every-cons, e)
+
+  pub every-at : (l : List A) (i : ℕ) (d : A) → every p l ≡ true → i < length l → p (getD l i d) ≡ true
+  unfolding every
+  every-at [] i d e h = absurd (not-suc-le-zero h)
+  every-at (x ∷ xs) zero d e h = both (p x) _ e .0
+  every-at (x ∷ xs) (suc i) d e h = every-at xs i d (both (p x) _ e .1) (le-of-suc-le-suc h)
+
+  every-all : (l : List A) (d : A) → ((k : ℕ) → k < length l → p (getD l k d) ≡ true) → every p l ≡ true
+  unfolding every
+  every-all [] d h = refl
+  every-all (x ∷ xs) d h = rw (h 0 (omega arith)) (every-all xs d (λ k l. h (suc k) (omega arith)))
+
+  -- a test over a list says it of each element
+  pub every-iff : (l : List A) (d : A) → every p l ≡ true ↔ ((k : ℕ) → k < length l → p (getD l k d) ≡ true)
+  every-iff l d = ((λ e k h. every-at l k d e h), every-all l d)

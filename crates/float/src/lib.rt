@@ -1,0 +1,50 @@
+// One number and lists of numbers: finite tests, and bits in and out.
+ghost use mathlib.Core.Path.{_≡_};
+ghost use lib.Ieee.{binary64, ofBits, toBits};
+ghost use lib.Ieee.Scale.{finite};
+ghost use Rattle.float.specs.Lists.{allFinite};
+
+// The bits of the one NaN (01-scope 4.2).
+pub const NAN_WORD: u64 = 0x7ff8_0000_0000_0000;
+
+// Whether x is neither a NaN nor an infinity.
+pub fn is_finite(x: f64) -> bool
+    ensures { λ r. ⌜ r ≡ finite x ⌝ }
+{
+    let top = f64::from_bits(0x7ff0_0000_0000_0000);
+    (x < top) & (-top < x)
+}
+
+// Whether every number of the list is finite.
+pub fn all_finite(xs: &[f64]) -> bool
+    ensures { λ r. ⌜ r ≡ allFinite (now (xs .entry)) ⌝ }
+{
+    let mut i = 0;
+    while i < xs.len() {
+        if !is_finite(xs[i]) {
+            return false;
+        }
+        i += 1;
+    }
+    true
+}
+
+// The number that a pattern of 64 bits stands for; every NaN's pattern is the one NaN.
+pub fn of_word(w: u64) -> f64
+    ensures { λ r. ⌜ r ≡ ofBits binary64 w ⌝ }
+{
+    if w % 0x8000_0000_0000_0000 > 0x7ff0_0000_0000_0000 {
+        return 0.0 / 0.0;
+    }
+    f64::from_bits(w)
+}
+
+// The bits of x; a NaN's are those of the one NaN, whichever the machine holds.
+pub fn to_word(x: f64) -> u64
+    ensures { λ r. ⌜ r ≡ toBits binary64 x ⌝ }
+{
+    if x != x {
+        return NAN_WORD;
+    }
+    f64::to_bits(x)
+}

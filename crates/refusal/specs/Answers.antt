@@ -1,0 +1,20 @@
+-- Answer records that several kernels share: the values where nothing is refused, +0 throughout after a refusal (01-scope 2.1).
+use mathlib.Core.Bool.{cond}
+use mathlib.Core.List.{List}
+use Prim.Native.Nat.{ℕ}
+use lib.Dec.{eqb}
+use lib.Ieee.{Float, Format}
+use lib.ListN.{replicate}
+use Rattle.float.specs.Ops.{Ops, ops}
+use Rattle.refusal.specs.Refusal.{accepted}
+use Rattle.refusal.specs.declared.Energy.{Energy}
+
+module _ (f : Format) where
+  open Ops (ops f) using (zero)
+
+  -- an energy, its gradient and its Hessian, flat in the source's order
+  unfoldable pub energyOf : (number : ℕ) (w : Float) (dw ddw : List Float) → Energy
+  energyOf number w dw ddw =
+      cond (eqb number accepted)
+      (record { number = number; w = w; dw = dw; ddw = ddw })
+      (record { number = number; w = zero; dw = replicate 9 zero; ddw = replicate 81 zero })

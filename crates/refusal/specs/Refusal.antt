@@ -1,0 +1,51 @@
+-- The refusal numbers by name, and the ladder that picks one (01-scope 2.1).
+use mathlib.Core.Bool.{Bool, true, not, cond, _&&_}
+use mathlib.Core.List.{List, [], _∷_}
+use Prim.Native.Nat.{ℕ}
+use lib.Dec.{eqb}
+
+abbrev pub accepted : ℕ
+accepted = 0
+
+-- a length or a limit is wrong
+abbrev pub badLength : ℕ
+badLength = 1
+
+-- a triangle names a vertex that isn't there
+abbrev pub badName : ℕ
+badName = 2
+
+-- an input number that the routine looks at is NaN or infinite
+abbrev pub badInput : ℕ
+badInput = 3
+
+-- a listed divisor is zero, of either sign
+abbrev pub zeroDivisor : ℕ
+zeroDivisor = 4
+
+-- a number of the finished answer is NaN or infinite
+abbrev pub badAnswer : ℕ
+badAnswer = 5
+
+-- a row of the ladder: the number to give where the test holds
+abbrev pub Row : Type 0
+Row = Bool × ℕ
+
+infix 68 _⇒_
+abbrev pub _⇒_ : Bool → ℕ → Row
+test ⇒ number = (test, number)
+
+-- the number of the first row whose test holds, and 0 where none does
+unfoldable pub firstOf : List Row → ℕ
+firstOf [] = accepted
+firstOf (row ∷ rows) = cond (row .0) (row .1) (firstOf rows)
+
+-- no test of these rows holds
+unfoldable pub noneOf : List Row → Bool
+noneOf [] = true
+noneOf (row ∷ rows) = not (row .0) && noneOf rows
+
+-- n is the number of none of these rows
+unfoldable pub apart : ℕ → List Row → Bool
+apart n [] = true
+apart n (row ∷ rows) = not (eqb (row .1) n) && apart n rows
