@@ -1,5 +1,6 @@
 pub mod Value
 pub mod Bits
+pub mod Patterns
 pub mod Scan
 pub mod Fill
 pub mod Fold

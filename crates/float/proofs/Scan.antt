@@ -1,6 +1,6 @@
 -- A loop that tests a list from the front keeps this: what is left from here passes exactly when the whole list does.
-use mathlib.Core.Path.{_≡_, refl}
-use mathlib.Core.Bool.{Bool, true, false, _&&_, false≢true}
+use mathlib.Core.Path.{_≡_, refl, sym, _∙_}
+use mathlib.Core.Bool.{Bool, true, false, _&&_, false≢true, and-assoc, and-true}
 use mathlib.Core.List.{List, [], _∷_}
 use mathlib.Core.Logic.{_↔_}
 use Prim.Native.Nat.{ℕ, zero, suc, _+_, _≤_, _<_}
@@ -25,6 +25,14 @@ module _ {A : Type 0} (p : A → Bool) where
   unfolding every
   every-done l i h = rw (drop-of-length-le l h)
 
+  -- a loop that goes to the end keeps ok && what is left
+  pub every-step : (l : List A) (i : ℕ) (d : A) (ok b : Bool) → i < length l → b ≡ p (getD l i d) → (ok && b && every p (drop (i + 1) l)) ≡ (ok && every p (drop i l))
+  every-step l i d ok b h e = rw (add-one, drop-cons l i d h, every-cons, e, and-assoc)
+
+  pub every-end : (l : List A) (i : ℕ) (ok r : Bool) → length l ≤ i → (ok && every p (drop i l)) ≡ r → ok ≡ r
+  every-end l i ok r h e = sym (and-true ok) ∙ rw (every-done l i h) at e
+
+  -- one that stops at the first failure keeps what is left
   pub every-pass : (l : List A) (i : ℕ) (d : A) → i < length l → p (getD l i d) ≡ true → every p (drop (i + 1) l) ≡ every p (drop i l)
   every-pass l i d h e = rw (add-one, drop-cons l i d h, every-cons, e)
 

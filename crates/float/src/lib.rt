@@ -19,14 +19,11 @@ pub fn is_finite(x: f64) -> bool
 pub fn all_finite(xs: &[f64]) -> bool
     ensures { λ r. ⌜ r ≡ allFinite (now (xs .entry)) ⌝ }
 {
-    let mut i = 0;
-    while i < xs.len() {
-        if !is_finite(xs[i]) {
-            return false;
-        }
-        i += 1;
+    let mut ok = true;
+    for i in 0..xs.len() {
+        ok = ok & is_finite(xs[i]);
     }
-    true
+    ok
 }
 
 // The number that a pattern of 64 bits stands for; every NaN's pattern is the one NaN.

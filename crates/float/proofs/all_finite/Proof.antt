@@ -1,28 +1,31 @@
--- `float::all_finite` meets its contract. The invariant: what is left from `i` is all finite exactly when the whole list is.
-use mathlib.Core.Path.{_≡_, refl, sym, _∙_}
-use Prim.Native.Nat.{_-_}
-use borrow.Author.Needs.{needs}
-use borrow.Author.Tests.{not-true, not-false}
+-- `float::all_finite` meets its contract. The invariant: what was seen so far and what is left from `i` are all finite exactly when the whole list is.
+use mathlib.Core.Path.{_≡_, refl, _∙_}
+use mathlib.Core.Bool.{_&&_}
+use Prim.Native.Nat.{_≤_, _<_, _-_}
+use native.Mathlib.Omega.{arith}
 use lib.Ieee.{nan}
 use lib.Ieee.Scale.{finite}
 use lib.ListN.{length, drop}
 use Rattle.float.specs.Lists.{allFinite}
-use Rattle.float.proofs.Scan.{every-done, every-pass, every-fail}
+use Rattle.float.proofs.Scan.{every-step, every-end}
 use Rattle.float.proofs.all_finite.Statement.{statement}
 use Rattle.float.proofs.all_finite.Tie as tie
 
 pub all-finite-spec : {M : Type 1} → statement M
 all-finite-spec = tie.close (tie.spec
-    (λ xs i₀ i. allFinite (drop i xs) ≡ allFinite xs)
-    (λ xs i₀ i. length xs - i)
-    (λ c. refl)
-    (λ c. search needs)
-    (λ c. search needs)
-    (λ c κs. search needs)
+    (λ xs ok₀ i₀ i-end ok i. (i ≤ i-end) × (i-end ≡ length xs) × ((ok && allFinite (drop i xs)) ≡ allFinite xs))
+    (λ xs ok₀ i₀ i-end ok i. i-end - i)
+    (λ c. (omega arith, refl, refl))
+    (λ c. omega (arith, c .before .before .before .good))
+    (λ c. omega arith)
+    (λ c κs. tt)
+    (λ c. omega arith)
+    (λ c. omega arith)
     (λ c. let l = c .before .before .before in
-    sym (sym (l .before .loop .inv) ∙ every-fail finite _ _ nan (l .loop-test .taken) (sym (c .before .is-finite .ensures) ∙ not-true _ (c .if1 .taken))))
-    (λ c. search needs)
-    (λ c. search needs)
-    (λ c. let l = c .before .before .before in
-    every-pass finite _ _ nan (l .loop-test .taken) (sym (c .before .is-finite .ensures) ∙ not-false _ (c .if1 .left)) ∙ l .before .loop .inv)
-    (λ c. sym (every-done finite _ _ (c .loop-test .left)) ∙ c .before .loop .inv))
+    let xs = l .before .before .args .xs .now in
+    let h : l .loop .i < length xs = omega arith in
+    (omega arith, refl, every-step finite xs (l .loop .i) nan (l .loop .ok) _ h (c .is-finite .ensures) ∙ l .loop .inv .2))
+    (λ c. let l = c .before in
+    let xs = l .before .before .args .xs .now in
+    let h : length xs ≤ l .loop .i = omega arith in
+    every-end finite xs (l .loop .i) (l .loop .ok) _ h (l .loop .inv .2)))

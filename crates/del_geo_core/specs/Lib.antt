@@ -1,0 +1,5 @@
+pub mod Vec3
+pub mod Tri2
+pub mod Tri3
+pub mod Edge
+pub mod CurveLinearCoords

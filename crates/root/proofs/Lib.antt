@@ -1,0 +1,5 @@
+pub mod Core
+pub mod Rule
+pub mod Unique
+pub mod RootOf
+pub mod Fields
