@@ -1,0 +1,10 @@
+pub mod Num
+pub mod Nearest
+pub mod Value
+pub mod Operations
+pub mod Rounding
+pub mod Error
+pub mod Chain
+pub mod Sums
+pub mod Dyadic
+pub mod Examples

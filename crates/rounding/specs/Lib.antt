@@ -1,0 +1,4 @@
+pub mod Exact
+pub mod Error
+pub mod Sums
+pub mod Dyadic
