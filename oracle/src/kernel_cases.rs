@@ -1,0 +1,228 @@
+//! Inputs of the four kernels.
+
+use crate::kernels;
+use crate::numbers::{self, moved};
+use crate::random::Random;
+use crate::record::{Record, BENDING, PLATE, STRAIN, STVK};
+
+/// Corners at rest come first, then what is known of them deformed, then the
+/// single numbers.
+pub struct Layout {
+    kind: u64,
+    dimensions: usize,
+    corners: usize,
+    deformed: usize,
+    singles: usize,
+}
+
+pub fn layout(kind: u64) -> Layout {
+    let of = |dimensions, corners, deformed, singles| Layout {
+        kind,
+        dimensions,
+        corners,
+        deformed,
+        singles,
+    };
+    match kind {
+        BENDING => of(3, 4, 12, 0),
+        STRAIN => of(2, 3, 9, 0),
+        STVK => of(3, 3, 9, 2),
+        PLATE => of(2, 3, 9, 3),
+        _ => unreachable!("no kernel"),
+    }
+}
+
+impl Layout {
+    fn rest(&self) -> usize {
+        self.dimensions * self.corners
+    }
+
+    fn inputs(&self) -> usize {
+        self.rest() + self.deformed + self.singles
+    }
+
+    fn record(&self, inputs: &[f64]) -> Record {
+        assert_eq!(inputs.len(), self.inputs());
+        Record::of_numbers(self.kind, inputs)
+    }
+}
+
+pub fn generated(kind: u64, random: &mut Random) -> Record {
+    let layout = layout(kind);
+    let inputs = if random.percent(68) {
+        tame(random, layout.inputs())
+    } else {
+        boundary(random, &layout)
+    };
+    layout.record(&inputs)
+}
+
+fn tame(random: &mut Random, count: usize) -> Vec<f64> {
+    match random.below(7) {
+        0 => numbers::list(count, || numbers::small(random)),
+        1 => numbers::list(count, || numbers::small(random) / 10.0),
+        2 => with_zeros(random, count),
+        3 => numbers::list(count, || {
+            random.pick(&[-2.0, -1.0, -0.0, 0.0, 1.0, 2.0, 3.0])
+        }),
+        4 => {
+            let top = random.between(-40, 40);
+            numbers::similar(random, count, top, 3)
+        }
+        _ => numbers::similar(random, count, 2, 5),
+    }
+}
+
+fn with_zeros(random: &mut Random, count: usize) -> Vec<f64> {
+    let mut inputs = numbers::similar(random, count, 2, 5);
+    for x in &mut inputs {
+        if random.percent(30) {
+            *x = random.pick(&[0.0, -0.0]);
+        }
+    }
+    inputs
+}
+
+fn boundary(random: &mut Random, layout: &Layout) -> Vec<f64> {
+    let count = layout.inputs();
+    match random.below(12) {
+        0 => numbers::list(count, || numbers::special(random)),
+        1 => numbers::list(count, || numbers::any(random)),
+        2 => numbers::list(count, || numbers::wild(random)),
+        3 => numbers::list(count, || numbers::square_edge(random)),
+        4 => {
+            let top = random.between(-1022, 1023);
+            numbers::similar(random, count, top, 4)
+        }
+        5 => equal_corners(random, layout),
+        6 => collinear(random, layout),
+        7 => nearly_collinear(random, layout),
+        8 => nearly_equal(random, layout),
+        9 => scales_apart(random, layout),
+        _ => one_special(random, count),
+    }
+}
+
+fn one_special(random: &mut Random, count: usize) -> Vec<f64> {
+    let mut inputs = tame(random, count);
+    inputs[random.below(count as u64) as usize] = numbers::special(random);
+    inputs
+}
+
+fn equal_corners(random: &mut Random, layout: &Layout) -> Vec<f64> {
+    let mut inputs = tame(random, layout.inputs());
+    let corner = |random: &mut Random| random.below(layout.corners as u64) as usize;
+    let (from, to) = (
+        corner(random) * layout.dimensions,
+        corner(random) * layout.dimensions,
+    );
+    inputs.copy_within(from..from + layout.dimensions, to);
+    inputs
+}
+
+/// Rest corners on one line, in whole steps from the first.
+fn collinear(random: &mut Random, layout: &Layout) -> Vec<f64> {
+    let mut inputs = tame(random, layout.inputs());
+    let start = numbers::list(layout.dimensions, || numbers::small(random));
+    let step = numbers::list(layout.dimensions, || numbers::small(random));
+    for i in 0..layout.rest() {
+        let (corner, axis) = (i / layout.dimensions, i % layout.dimensions);
+        inputs[i] = start[axis] + step[axis] * corner as f64;
+    }
+    inputs
+}
+
+/// Rest corners on a line but for the last places: products cancel.
+pub fn nearly_collinear(random: &mut Random, layout: &Layout) -> Vec<f64> {
+    let mut inputs = tame(random, layout.inputs());
+    let step = numbers::similar(random, layout.dimensions, 2, 5);
+    for i in 0..layout.rest() {
+        let (corner, axis) = (i / layout.dimensions, i % layout.dimensions);
+        let x = step[axis] * [0.0, 1.0, 3.0, -1.5][corner];
+        inputs[i] = if x == 0.0 {
+            x
+        } else {
+            moved(x, random.between(-2, 2))
+        };
+    }
+    inputs
+}
+
+fn nearly_equal(random: &mut Random, layout: &Layout) -> Vec<f64> {
+    let mut inputs = tame(random, layout.inputs());
+    let first = numbers::similar(random, layout.dimensions, 2, 5);
+    for i in 0..layout.rest() {
+        inputs[i] = moved(first[i % layout.dimensions], random.between(-4, 4));
+    }
+    inputs
+}
+
+/// Rest corners, the deformed ones and each single number at scales of their own.
+fn scales_apart(random: &mut Random, layout: &Layout) -> Vec<f64> {
+    let groups = [layout.rest(), layout.deformed]
+        .into_iter()
+        .chain(vec![1; layout.singles]);
+    groups
+        .flat_map(|count| {
+            let top = random.between(-300, 300);
+            numbers::similar(random, count, top, 4)
+        })
+        .collect()
+}
+
+/// Tame inputs over the given rest corners.
+pub fn over(random: &mut Random, layout: &Layout, rest: &[f64]) -> Record {
+    let others = tame(random, layout.inputs() - rest.len());
+    layout.record(&[rest, &others].concat())
+}
+
+/// Rest corners with the edges (a, 0) and (0, b) from corner 0; the bending
+/// pair has those edges on its shared edge's either side.
+pub fn right_angle(layout: &Layout, a: f64, b: f64) -> Vec<f64> {
+    match layout.kind {
+        BENDING => vec![0.0, b, 0.0, 0.0, -b, 0.0, 0.0, 0.0, 0.0, a, 0.0, 0.0],
+        STVK => vec![0.0, 0.0, 0.0, a, 0.0, 0.0, 0.0, b, 0.0],
+        _ => vec![0.0, 0.0, a, 0.0, 0.0, b],
+    }
+}
+
+/// A record whose zero divisors are exactly those at `places`; found by
+/// drawing rest corners that nearly lie on a line.
+pub fn with_zero_divisors(random: &mut Random, layout: &Layout, places: &[usize]) -> Record {
+    loop {
+        let inputs = nearly_collinear(random, layout);
+        let divisors = kernels::divisors(layout.kind, &inputs);
+        let zeros: Vec<usize> = (0..divisors.len())
+            .filter(|i| divisors[*i] == 0.0)
+            .collect();
+        if zeros == places {
+            return layout.record(&inputs);
+        }
+    }
+}
+
+/// A record of an energy whose value at `place` alone is infinite: one where it
+/// is the largest by far, with stiffnesses raised until it overflows.
+pub fn with_one_infinite(random: &mut Random, layout: &Layout, place: usize) -> Record {
+    let refusal = |inputs: &[f64]| kernels::answer(layout.kind, inputs).number;
+    loop {
+        let inputs = numbers::similar(random, layout.inputs(), 2, 5);
+        let values = kernels::answer(layout.kind, &inputs).values;
+        let top = values[place].abs();
+        let others = [&values[..place], &values[place + 1..]].concat();
+        if top < 2.0 || others.iter().any(|x| x.abs() > 0.9 * top) {
+            continue;
+        }
+        let below = stiffer(&inputs, f64::MAX / top * 0.95);
+        let above = stiffer(&inputs, f64::MAX / top * 1.05);
+        if (refusal(&below), refusal(&above)) == (0, 5) {
+            return layout.record(&above);
+        }
+    }
+}
+
+/// The two Lame parameters, which come last, times a factor.
+fn stiffer(inputs: &[f64], factor: f64) -> Vec<f64> {
+    let (others, lame) = inputs.split_at(inputs.len() - 2);
+    [others.to_vec(), vec![lame[0] * factor, lame[1] * factor]].concat()
+}

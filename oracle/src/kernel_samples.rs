@@ -1,0 +1,354 @@
+//! The fixed sample of the four kernels: chosen inputs, then drawn ones.
+
+use crate::kernel_cases::{
+    generated, layout, over, right_angle, with_one_infinite, with_zero_divisors, Layout,
+};
+use crate::kernels;
+use crate::numbers::{self, power, scaled};
+use crate::random::Random;
+use crate::record::{Record, BENDING, PLATE, STRAIN, STVK};
+
+const DRAWN: usize = 330;
+
+pub fn sample(kind: u64) -> Vec<Record> {
+    let layout = layout(kind);
+    let mut random = Random::of(kind);
+    let mut records = Vec::new();
+    records.extend(
+        chosen(kind)
+            .iter()
+            .map(|inputs| Record::of_numbers(kind, inputs)),
+    );
+    records.extend(at_edges(&mut random, &layout));
+    records.extend(zero_divisors(kind, &mut random, &layout));
+    records.extend(one_infinite(kind, &mut random, &layout));
+    records.extend(each_input_special(kind));
+    records.extend((0..DRAWN).map(|_| generated(kind, &mut random)));
+    records
+}
+
+fn chosen(kind: u64) -> Vec<Vec<f64>> {
+    match kind {
+        BENDING => bending(),
+        STRAIN => strain(),
+        STVK => stvk(),
+        PLATE => plate(),
+        _ => unreachable!("no kernel"),
+    }
+}
+
+fn bending() -> Vec<Vec<f64>> {
+    let rest = [0.0, 2.0, 0.0, 0.0, -2.0, 0.0, 0.0, 0.0, 0.0, 2.0, 0.0, 0.0];
+    let mut lifted = [0.0; 12];
+    lifted[2] = 1.0;
+    let original = [
+        [0.1, 0.2, 0.3, 0.2, 0.1, 0.5, 0.3, 0.4, 0.3, 0.5, 0.2, 0.4],
+        [
+            0.11, 0.04, 0.38, 0.22, 0.13, 0.07, 0.03, 0.42, 0.35, 0.54, 0.01, 0.46,
+        ],
+    ];
+    let equal_ends = [0.0, 1.0, 0.0, 0.0, -1.0, 0.0, 3.0, 4.0, 5.0, 3.0, 4.0, 5.0];
+    let flat_first = [3.0, 0.0, 0.0, 1.0, -1.0, 0.0, 0.0, 0.0, 0.0, 2.0, 0.0, 0.0];
+    let flat_second = [1.0, 1.0, 0.0, -2.0, 0.0, 0.0, 0.0, 0.0, 0.0, 2.0, 0.0, 0.0];
+    let flat = [3.0, 0.0, 0.0, -2.0, 0.0, 0.0, 0.0, 0.0, 0.0, 2.0, 0.0, 0.0];
+    let tiny_edge = power(-540);
+    let length_underflows = [
+        0.0, 1e9, 0.0, 0.0, -1e9, 0.0, 0.0, 0.0, 0.0, tiny_edge, 0.0, 0.0,
+    ];
+    let (plus, minus) = ([0.0; 6], [-0.0; 6]);
+    let zeros = [[plus, minus].concat(), [minus, plus].concat()].map(|x| x.try_into().unwrap());
+    let symmetric = [1.0, 2.0, 0.0, 1.0, -2.0, 0.0, 0.0, 0.0, 0.0, 2.0, 0.0, 0.0];
+    let mut cases = vec![original.concat()];
+    for rest in [
+        rest,
+        equal_ends,
+        flat_first,
+        flat_second,
+        flat,
+        length_underflows,
+        symmetric,
+    ] {
+        for deformed in [
+            lifted,
+            lifted.map(|x| -x),
+            [0.0; 12],
+            zeros[0],
+            zeros[1],
+            rest,
+        ] {
+            cases.push([rest, deformed].concat());
+        }
+    }
+    cases
+}
+
+fn strain() -> Vec<Vec<f64>> {
+    let rest = [0.0, 0.0, 1.0, 0.0, 0.0, 1.0];
+    let pulled = [0.0, 0.0, 0.0, 2.0, 0.0, 0.0, 0.0, 1.0, 0.0];
+    let original = [
+        vec![0.1, 0.2, 0.2, 0.1, 0.3, 0.4],
+        vec![0.31, 0.04, 0.38, 0.13, 0.13, 0.07, 0.03, 0.42, 0.35],
+    ];
+    let clockwise = [0.0, 0.0, 0.0, 1.0, 1.0, 0.0];
+    let line = [0.0, 0.0, 1.0, 0.0, 2.0, 0.0];
+    let same_point = [1.0, 2.0, 1.0, 2.0, 1.0, 2.0];
+    let mut cases = vec![original.concat()];
+    for rest in [rest, clockwise, line, same_point] {
+        for deformed in [pulled, pulled.map(|x| -x), [0.0; 9], [-0.0; 9]] {
+            cases.push([rest.to_vec(), deformed.to_vec()].concat());
+        }
+    }
+    [
+        cases,
+        tiny_strains(),
+        aligned_strains(),
+        strains_of_minus_zero(),
+        cancelling_strains(),
+    ]
+    .concat()
+}
+
+/// Sides along the axes in all directions, made longer and shorter: the mixed
+/// factors are zeros of either sign.
+fn aligned_strains() -> Vec<Vec<f64>> {
+    let mut cases = Vec::new();
+    for (a, b) in [(1.0, 1.0), (-1.0, 1.0), (1.0, -1.0), (-1.0, -1.0)] {
+        for (c, d) in [(2.0, 2.0), (0.5, 2.0), (2.0, 0.5), (0.5, 0.5)] {
+            let deformed = [0.0, 0.0, 0.0, c, 0.0, 0.0, 0.0, d, 0.0];
+            for rest in [[0.0, 0.0, a, 0.0, 0.0, b], [0.0, 0.0, 0.0, a, b, 0.0]] {
+                cases.push([rest.to_vec(), deformed.to_vec()].concat());
+            }
+        }
+    }
+    cases
+}
+
+/// A side of a few smallest squares: half of a difference of squares is not
+/// the difference of the halves.
+fn tiny_strains() -> Vec<Vec<f64>> {
+    let [a, b, c] = [1.7 * power(-537), power(500), power(-537)];
+    vec![
+        vec![
+            0.0, 0.0, a, 0.0, 0.0, b, 0.0, 0.0, 0.0, c, 0.0, 0.0, 0.0, b, 0.0,
+        ],
+        vec![
+            0.0, 0.0, b, 0.0, 0.0, a, 0.0, 0.0, 0.0, b, 0.0, 0.0, 0.0, c, 0.0,
+        ],
+    ]
+}
+
+/// A sheet so thin that every product of a strain and a factor underflows,
+/// with strains of both signs: some sums are -0.
+fn strains_of_minus_zero() -> Vec<Vec<f64>> {
+    let thin = power(-530);
+    let mut cases = Vec::new();
+    for [x1, y1, x2, y2] in [
+        [0.0, 1.0, thin, 1.0],
+        [1.0, 0.0, 1.0, thin],
+        [0.0, 1.0, -thin, 1.0],
+        [1.0, 0.0, 1.0, -thin],
+    ] {
+        for [along, across] in [[1.0 - power(-20), 0.0], [1.0 - power(-20), power(-9)]] {
+            for side in [across, -across] {
+                let rest = [0.0, 0.0, x1, y1, x2, y2];
+                let deformed = [0.0, 0.0, 0.0, along, side, 0.0, along, -side, 0.0];
+                cases.push([rest.to_vec(), deformed.to_vec()].concat());
+            }
+        }
+    }
+    cases
+}
+
+/// Contravariant vectors at 60 and 180 degrees, drawn until the mixed factors
+/// of corner 0 cancel to a zero, with deformed sides that show its sign.
+fn cancelling_strains() -> Vec<Vec<f64>> {
+    let mut random = Random::of(60);
+    let deformed = |x: [f64; 3], y: [f64; 3]| [vec![0.0; 3], x.to_vec(), y.to_vec()].concat();
+    let (ones, zeros) = ([1.0, -1.0, 1.0], [0.0, 0.0, -0.0]);
+    let mut cases = Vec::new();
+    for first in [true, false] {
+        let (seen, sign) = if first { (ones, zeros) } else { (zeros, ones) };
+        let rest = loop {
+            let t = scaled(&mut random, 0).abs();
+            let (slanted, upright) = ([-3f64.sqrt() * t, t], [0.0, 1.0]);
+            let corners = if first {
+                [upright, slanted]
+            } else {
+                [slanted, upright]
+            };
+            let rest = [[0.0, 0.0], corners[0], corners[1]].concat();
+            let inputs = [rest.clone(), deformed(seen, sign)].concat();
+            if kernels::answer(STRAIN, &inputs).values[3 + 2 * 9] == 0.0 {
+                break rest;
+            }
+        };
+        for (a, b) in [(1.0, 1.0), (1.0, -1.0), (-1.0, 1.0), (-1.0, -1.0)] {
+            let sides = deformed(seen.map(|x| x * a), sign.map(|x| x * b));
+            cases.push([rest.clone(), sides].concat());
+        }
+    }
+    cases
+}
+
+fn stvk() -> Vec<Vec<f64>> {
+    let rest = [0.0, 0.0, 0.0, 1.0, 0.0, 0.0, 0.0, 1.0, 0.0];
+    let pulled = [0.0, 0.0, 0.0, 2.0, 0.0, 0.0, 0.0, 1.0, 0.0];
+    let line = [0.0, 0.0, 0.0, 1.0, 0.0, 0.0, 2.0, 0.0, 0.0];
+    let clockwise = [0.0, 0.0, 0.0, 0.0, 1.0, 0.0, 1.0, 0.0, 0.0];
+    let turned = [0.0, 0.0, 0.0, 0.0, 1.0, 0.0, 0.0, 0.0, 1.0];
+    let skewed = [0.0, 0.0, 0.0, 2.0, 0.0, 0.0, 1.0, 1.0, 0.0];
+    let originals = [
+        [
+            [1.2, 2.1, 3.4, 3.5, 5.2, 4.3, 3.4, 4.8, 2.4],
+            [3.1, 2.2, 1.5, 4.3, 3.6, 2.0, 5.2, 4.5, 3.4],
+        ],
+        [
+            [3.1, 5.0, 1.3, 2.0, 1.8, 3.4, 5.6, 2.4, 3.3],
+            [2.5, 1.0, 3.2, 0.3, 4.6, 1.2, 3.2, 5.5, 1.4],
+        ],
+    ];
+    let mut cases: Vec<Vec<f64>> = originals
+        .iter()
+        .map(|pair| [pair.concat(), vec![1.3, 1.9]].concat())
+        .collect();
+    cases.push(energy_near_the_top());
+    cases.push(stiffness_near_the_top());
+    for rest in [rest, line, clockwise, turned, skewed] {
+        for deformed in [pulled, pulled.map(|x| x * -0.5), rest, [0.0; 9], [-0.0; 9]] {
+            for lame in [[0.0, 1.0], [1.0, 0.0], [-1.0, -0.0]] {
+                cases.push([rest.to_vec(), deformed.to_vec(), lame.to_vec()].concat());
+            }
+        }
+    }
+    cases
+}
+
+/// An energy that is finite although twice of it is not.
+fn energy_near_the_top() -> Vec<f64> {
+    let rest = [0.0, 0.0, 0.0, 20.0, 0.0, 0.0, 0.0, 10.0, 0.0];
+    let pulled = [0.0, 0.0, 0.0, 2000.0, 0.0, 0.0, 0.0, 10.0, 0.0];
+    [&rest[..], &pulled, &[0.0, f64::MAX / 3e9]].concat()
+}
+
+/// Twice myu overflows, although the tensor would not.
+fn stiffness_near_the_top() -> Vec<f64> {
+    let rest = [0.0, 0.0, 0.0, 1.0, 0.0, 0.0, 0.0, 1.0, 0.0].map(|x| x * power(120));
+    [&rest[..], &rest, &[0.0, power(1023)]].concat()
+}
+
+fn plate() -> Vec<Vec<f64>> {
+    let square = [0.0, 0.0, 1.0, 0.0, 0.0, 1.0];
+    let clockwise = [0.0, 0.0, 0.0, 1.0, 1.0, 0.0];
+    let line = [0.0, 0.0, 1.0, 1.0, 2.0, 2.0];
+    let skewed = [0.0, 0.0, 2.0, 0.0, 1.0, 1.0];
+    let lifted = [0.0, 0.0, 0.0, 1.0, 0.0, 0.0, 0.0, 0.0, 0.0];
+    let tilted = [0.0, 1.0, 0.0, 0.0, 0.0, 2.0, 0.0, -1.0, 0.0];
+    let original = [
+        vec![0.0, 0.0, 1.0, 0.1, 0.1, 1.0],
+        vec![0.01, 0.02, 0.03, -0.01, 0.01, 0.03, 0.02, 0.03, 0.02],
+        vec![0.03, 1.0, 1.0],
+    ];
+    let mut cases = vec![original.concat()];
+    for rest in [square, clockwise, line, skewed] {
+        for deformed in [lifted, tilted, [0.0; 9], [-0.0; 9]] {
+            for thickness in [2.0, 0.0, -0.0, -2.0, 0.1, f64::INFINITY] {
+                let singles = vec![thickness, 0.0, 1.0];
+                cases.push([rest.to_vec(), deformed.to_vec(), singles].concat());
+            }
+        }
+    }
+    cases
+}
+
+const EDGES: [i32; 18] = [
+    -1074, -538, -537, -536, -512, -270, -269, -268, -256, 255, 256, 257, 400, 511, 512, 513, 1000,
+    1023,
+];
+
+/// Right angles of every size at which an area, a norm or a square goes over
+/// or under, and pairs of a large and a small edge.
+fn at_edges(random: &mut Random, layout: &Layout) -> Vec<Record> {
+    let mut records = Vec::new();
+    for e in EDGES {
+        let h = power(e);
+        for (a, b) in [(h, h), (-h, h), (h, -h)] {
+            records.push(over(random, layout, &right_angle(layout, a, b)));
+        }
+    }
+    for (a, b) in [
+        (500, -540),
+        (-540, 500),
+        (-538, 538),
+        (1000, -1000),
+        (-1000, 1000),
+    ] {
+        records.push(over(
+            random,
+            layout,
+            &right_angle(layout, power(a), power(b)),
+        ));
+    }
+    for e in [999, 1000, 1001] {
+        let (a, b) = (scaled(random, e), scaled(random, e));
+        records.push(over(random, layout, &right_angle(layout, a, b)));
+    }
+    records
+}
+
+/// Divisors that vanish while the others do not; for bending and strain the
+/// chosen cases and the edges hold such.
+fn zero_divisors(kind: u64, random: &mut Random, layout: &Layout) -> Vec<Record> {
+    let groups: &[&[usize]] = match kind {
+        STVK => &[&[1], &[2], &[3]],
+        PLATE => &[&[2], &[3], &[4], &[2, 3, 4]],
+        _ => &[],
+    };
+    let twice = groups.iter().flat_map(|places| [places, places]);
+    let mut records: Vec<Record> = twice
+        .map(|places| with_zero_divisors(random, layout, places))
+        .collect();
+    if kind == PLATE {
+        records.push(Record::of_numbers(kind, &negative_zero_dot()));
+    }
+    records
+}
+
+/// A plate whose first dot is -0 by underflow while the others are no zeros.
+fn negative_zero_dot() -> Vec<f64> {
+    let rest = [0.0, 0.0, -power(600), -0.0, -0.0, power(-600)];
+    [&rest[..], &[0.0; 9], &[power(-499), 1.0, 1.0]].concat()
+}
+
+/// The energy alone, a gradient's entry alone or the last entry alone overflows.
+fn one_infinite(kind: u64, random: &mut Random, layout: &Layout) -> Vec<Record> {
+    let places: &[usize] = if kind == STVK || kind == PLATE {
+        &[0, 1, 90]
+    } else {
+        &[]
+    };
+    places
+        .iter()
+        .map(|place| with_one_infinite(random, layout, *place))
+        .collect()
+}
+
+/// Each input in turn infinite or NaN over an accepted case.
+fn each_input_special(kind: u64) -> Vec<Record> {
+    let accepted = chosen(kind).swap_remove(0);
+    let bad = [
+        f64::NEG_INFINITY,
+        f64::NAN,
+        f64::from_bits(0xfff4_0000_0000_0000),
+    ];
+    (0..accepted.len())
+        .map(|place| {
+            let mut inputs = accepted.clone();
+            inputs[place] = bad[place % bad.len()];
+            Record::of_numbers(kind, &inputs)
+        })
+        .chain((0..3).map(|i| {
+            let inputs = numbers::list(accepted.len(), || bad[i]);
+            Record::of_numbers(kind, &inputs)
+        }))
+        .collect()
+}

@@ -1,0 +1,153 @@
+//! Expected answers of the port: makes records, answers them, compares lines.
+
+mod answer;
+mod compare;
+mod helper_cases;
+mod helpers;
+mod kernel_cases;
+mod kernel_samples;
+mod kernels;
+mod mass_cases;
+mod masses;
+mod numbers;
+mod random;
+mod record;
+mod root;
+mod roots;
+#[cfg(test)]
+mod tests;
+mod traced;
+
+use random::Random;
+use record::Record;
+use std::io::{self, BufWriter, Read, Write};
+use std::process::ExitCode;
+
+const USAGE: &str = "usage:
+  oracle sample KINDS                 the fixed sample of these kinds, and a record cut short
+  oracle generate KINDS COUNT SEED    COUNT fresh records of each kind
+  oracle answer                       records in, answer lines out
+  oracle compare EXPECTED ACTUAL      two files of answer lines
+KINDS is a list such as 1,9 or the word all.";
+
+fn main() -> ExitCode {
+    let arguments: Vec<String> = std::env::args().skip(1).collect();
+    let arguments: Vec<&str> = arguments.iter().map(String::as_str).collect();
+    match run(&arguments) {
+        Ok(code) => code,
+        Err(message) => {
+            eprintln!("{message}");
+            ExitCode::from(2)
+        }
+    }
+}
+
+fn run(arguments: &[&str]) -> Result<ExitCode, String> {
+    match arguments {
+        ["sample", kinds] => {
+            let records = parsed_kinds(kinds)?.into_iter().flat_map(sample).collect();
+            write_records(records, &cut_short())
+        }
+        ["generate", kinds, count, seed] => {
+            let count = parsed(count)?;
+            let mut random = Random::of(parsed(seed)?);
+            let kinds = parsed_kinds(kinds)?;
+            let kinds = kinds
+                .into_iter()
+                .flat_map(|kind| (0..count).map(move |_| kind));
+            write_records(
+                kinds.map(|kind| generated(kind, &mut random)).collect(),
+                &[],
+            )
+        }
+        ["answer"] => answer_lines(),
+        ["compare", expected, actual] => compare_files(expected, actual),
+        _ => Err(USAGE.to_string()),
+    }
+}
+
+fn parsed(text: &str) -> Result<u64, String> {
+    text.parse()
+        .map_err(|_| format!("{text} is no whole number"))
+}
+
+fn parsed_kinds(text: &str) -> Result<Vec<u64>, String> {
+    if text == "all" {
+        return Ok(record::KINDS.to_vec());
+    }
+    let kinds: Vec<u64> = text.split(',').map(parsed).collect::<Result<_, _>>()?;
+    match kinds.iter().find(|kind| !record::KINDS.contains(kind)) {
+        Some(kind) => Err(format!("{kind} is no kind of record")),
+        None => Ok(kinds),
+    }
+}
+
+fn sample(kind: u64) -> Vec<Record> {
+    match kind {
+        record::ROOT => roots::sample(),
+        record::HELPER => helper_cases::sample(),
+        record::MASSES => mass_cases::sample(),
+        kernel => kernel_samples::sample(kernel),
+    }
+}
+
+fn generated(kind: u64, random: &mut Random) -> Record {
+    match kind {
+        record::ROOT => roots::generated(random),
+        record::HELPER => helper_cases::generated(random),
+        record::MASSES => mass_cases::generated(random),
+        kernel => kernel_cases::generated(kernel, random),
+    }
+}
+
+/// The sample's end: a root without its last byte, which is answered by `?`.
+fn cut_short() -> Vec<u8> {
+    let mut bytes = Vec::new();
+    let root = Record::of_numbers(record::ROOT, &[4.0]);
+    root.write(&mut bytes).expect("a list takes every byte");
+    bytes.pop();
+    bytes
+}
+
+fn write_records(records: Vec<Record>, end: &[u8]) -> Result<ExitCode, String> {
+    let mut out = BufWriter::new(io::stdout().lock());
+    records
+        .iter()
+        .try_for_each(|record| record.write(&mut out))
+        .and_then(|()| out.write_all(end))
+        .map_err(|e| e.to_string())?;
+    out.flush().map_err(|e| e.to_string())?;
+    Ok(ExitCode::SUCCESS)
+}
+
+fn answer_lines() -> Result<ExitCode, String> {
+    let mut bytes = Vec::new();
+    io::stdin()
+        .lock()
+        .read_to_end(&mut bytes)
+        .map_err(|e| e.to_string())?;
+    let mut out = BufWriter::new(io::stdout().lock());
+    answer::write_lines(&bytes, &mut out).map_err(|e| e.to_string())?;
+    out.flush().map_err(|e| e.to_string())?;
+    Ok(ExitCode::SUCCESS)
+}
+
+fn compare_files(expected: &str, actual: &str) -> Result<ExitCode, String> {
+    let read = |file: &str| std::fs::read_to_string(file).map_err(|e| format!("{file}: {e}"));
+    let (expected, actual) = (read(expected)?, read(actual)?);
+    let result = compare::compare(&expected, &actual);
+    if let Some(first) = result.first {
+        println!("{first}");
+    }
+    let (lines, others) = (expected.lines().count(), actual.lines().count());
+    if lines != others {
+        println!("{lines} lines expected, {others} lines there");
+    }
+    println!("{} compared, {} differ", result.compared, result.differ);
+    let same = result.differ == 0 && lines == others;
+    Ok(if same {
+        ExitCode::SUCCESS
+    } else {
+        ExitCode::FAILURE
+    })
+}

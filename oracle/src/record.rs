@@ -1,0 +1,127 @@
+//! Records of big-endian words: a kind, then the inputs of its routine.
+
+use std::io::{self, Write};
+
+pub const ROOT: u64 = 1;
+pub const BENDING: u64 = 2;
+pub const STRAIN: u64 = 3;
+pub const STVK: u64 = 4;
+pub const PLATE: u64 = 5;
+pub const MASSES: u64 = 6;
+pub const HELPER: u64 = 9;
+
+pub const KINDS: [u64; 7] = [ROOT, BENDING, STRAIN, STVK, PLATE, MASSES, HELPER];
+
+/// Input words of the helpers, the first entry for helper 1.
+pub const HELPER_INPUTS: [usize; 11] = [6, 6, 6, 4, 3, 3, 6, 9, 9, 6, 9];
+
+/// Words of a masses record before its lists: N, T, B, thickness, density.
+pub const MASSES_HEAD: usize = 5;
+
+const LONGEST_LIST: u64 = 4096;
+
+/// A kind and every word after it; a helper's first word is its name.
+#[derive(Clone, Debug, PartialEq)]
+pub struct Record {
+    pub kind: u64,
+    pub words: Vec<u64>,
+}
+
+impl Record {
+    pub fn of_numbers(kind: u64, numbers: &[f64]) -> Record {
+        Record {
+            kind,
+            words: words_of(numbers),
+        }
+    }
+
+    pub fn of_helper(helper: usize, numbers: &[f64]) -> Record {
+        let words = [vec![helper as u64], words_of(numbers)].concat();
+        Record {
+            kind: HELPER,
+            words,
+        }
+    }
+
+    pub fn write(&self, out: &mut impl Write) -> io::Result<()> {
+        out.write_all(&self.kind.to_be_bytes())?;
+        self.words
+            .iter()
+            .try_for_each(|word| out.write_all(&word.to_be_bytes()))
+    }
+}
+
+pub fn words_of(numbers: &[f64]) -> Vec<u64> {
+    numbers.iter().map(|x| x.to_bits()).collect()
+}
+
+pub fn numbers_of(words: &[u64]) -> Vec<f64> {
+    words.iter().map(|word| f64::from_bits(*word)).collect()
+}
+
+/// Cut short, of an unknown kind or helper, or with a list that is too long.
+#[derive(Debug, PartialEq)]
+pub struct Malformed;
+
+pub struct Records<'a> {
+    rest: &'a [u8],
+}
+
+impl<'a> Records<'a> {
+    pub fn of(bytes: &'a [u8]) -> Records<'a> {
+        Records { rest: bytes }
+    }
+
+    fn word(&mut self) -> Option<u64> {
+        let (word, rest) = self.rest.split_first_chunk()?;
+        self.rest = rest;
+        Some(u64::from_be_bytes(*word))
+    }
+
+    fn words(&mut self, count: usize) -> Option<Vec<u64>> {
+        (0..count).map(|_| self.word()).collect()
+    }
+
+    fn record(&mut self) -> Option<Record> {
+        let kind = self.word()?;
+        let words = match kind {
+            ROOT => self.words(1),
+            BENDING => self.words(24),
+            STRAIN => self.words(15),
+            STVK => self.words(20),
+            PLATE => self.words(18),
+            MASSES => self.masses(),
+            HELPER => self.helper(),
+            _ => None,
+        }?;
+        Some(Record { kind, words })
+    }
+
+    fn masses(&mut self) -> Option<Vec<u64>> {
+        let head = self.words(MASSES_HEAD)?;
+        let lengths = &head[..3];
+        if lengths.iter().any(|length| *length > LONGEST_LIST) {
+            return None;
+        }
+        let lists = self.words(lengths.iter().sum::<u64>() as usize)?;
+        Some([head, lists].concat())
+    }
+
+    fn helper(&mut self) -> Option<Vec<u64>> {
+        let helper = self.word()?;
+        let place = usize::try_from(helper.checked_sub(1)?).ok()?;
+        let inputs = self.words(*HELPER_INPUTS.get(place)?)?;
+        Some([vec![helper], inputs].concat())
+    }
+}
+
+impl Iterator for Records<'_> {
+    type Item = Result<Record, Malformed>;
+
+    fn next(&mut self) -> Option<Self::Item> {
+        if self.rest.is_empty() {
+            return None;
+        }
+        Some(self.record().ok_or(Malformed))
+    }
+}

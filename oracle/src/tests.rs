@@ -1,0 +1,343 @@
+//! The scope's examples, the meaning of every traced divisor, and what the
+//! fixed sample has to hold.
+
+use crate::answer::{self, answer};
+use crate::helpers::points;
+use crate::random::Random;
+use crate::record::{self, numbers_of, Record, Records, BENDING, KINDS, PLATE, STRAIN, STVK};
+use crate::{compare, generated, kernels, masses, sample};
+use del_geo_core::{curve_linear_coords, edge, tri3, vec3};
+
+const KERNELS: [u64; 4] = [BENDING, STRAIN, STVK, PLATE];
+
+fn values(kind: u64, inputs: &[f64]) -> Vec<f64> {
+    let answer = kernels::answer(kind, inputs);
+    assert_eq!(answer.number, 0);
+    answer.values
+}
+
+fn refusal(kind: u64, inputs: &[f64]) -> u64 {
+    let answer = kernels::answer(kind, inputs);
+    let number = answer.number;
+    assert!(number == 0 || answer.values.iter().all(|x| x.to_bits() == 0));
+    number
+}
+
+const SQUARE: [f64; 8] = [0.0, 0.0, 6.0, 0.0, 0.0, 6.0, 6.0, 6.0];
+
+fn square_masses(names: &[u64]) -> (u64, Vec<f64>) {
+    let answer = masses::masses(names, &SQUARE, 1.0, 2.0, &[7.0; 12]);
+    (answer.number, answer.values)
+}
+
+#[test]
+fn examples_of_masses() {
+    let one = [12.0, 1.0, 1.0];
+    let none = [0.0; 3];
+    assert_eq!(
+        square_masses(&[0, 1, 2]),
+        (0, [one, one, one, none].concat())
+    );
+    let turned = one.map(|x| -x);
+    assert_eq!(
+        square_masses(&[0, 2, 1]),
+        (0, [turned, turned, turned, none].concat())
+    );
+    let (_, both) = square_masses(&[0, 1, 2, 1, 3, 2]);
+    let translational: Vec<f64> = both.iter().copied().step_by(3).collect();
+    assert_eq!(translational, [12.0, 24.0, 24.0, 12.0]);
+    assert_eq!(square_masses(&[]), (0, vec![0.0; 12]));
+    assert_eq!(square_masses(&[0, 1, 2, 3]), (1, vec![7.0; 12]));
+    assert_eq!(square_masses(&[0, 1, 4]), (2, vec![7.0; 12]));
+    assert_eq!(square_masses(&[0, 1, 3]).0, 0);
+}
+
+#[test]
+fn limits_of_masses() {
+    let number = |names: usize, coordinates: usize, entries: usize| {
+        masses::masses(
+            &vec![0; names],
+            &vec![1.0; coordinates],
+            1.0,
+            1.0,
+            &vec![0.0; entries],
+        )
+        .number
+    };
+    assert_eq!(number(3, 131_072, 196_608), 0);
+    assert_eq!(number(3, 131_073, 196_608), 0);
+    assert_eq!(number(3, 131_074, 196_611), 1);
+    assert_eq!(number(393_216, 6, 9), 0);
+    assert_eq!(number(393_219, 6, 9), 1);
+}
+
+#[test]
+fn examples_of_roots() {
+    let root = |x: f64| answer(&Record::of_numbers(record::ROOT, &[x])).line()[17..].to_string();
+    assert_eq!(root(4.0), "4000000000000000");
+    assert_eq!(root(2.0), "3ff6a09e667f3bcd");
+    assert_eq!(root(f64::from_bits(1)), "1e60000000000000");
+    assert_eq!(root(f64::MAX), "5fefffffffffffff");
+    assert_eq!(root(-0.0), "8000000000000000");
+    assert_eq!(root(-1.0), "7ff8000000000000");
+}
+
+#[test]
+fn examples_of_kernels() {
+    let plate = |thickness| {
+        let corners = [0.0, 0.0, 1.0, 0.0, 0.0, 1.0];
+        let lifted = [0.0, 0.0, 0.0, 1.0, 0.0, 0.0, 0.0, 0.0, 0.0];
+        [corners.to_vec(), lifted.to_vec(), vec![thickness, 0.0, 1.0]].concat()
+    };
+    assert_eq!(values(PLATE, &plate(2.0))[0], 2.0);
+    assert_eq!(refusal(PLATE, &plate(0.0)), 4);
+    assert_eq!(refusal(PLATE, &plate(f64::INFINITY)), 3);
+
+    let rest = [0.0, 0.0, 0.0, 1.0, 0.0, 0.0, 0.0, 1.0, 0.0];
+    let line = [0.0, 0.0, 0.0, 1.0, 0.0, 0.0, 2.0, 0.0, 0.0];
+    let pulled = [0.0, 0.0, 0.0, 2.0, 0.0, 0.0, 0.0, 1.0, 0.0];
+    let stvk = values(STVK, &[&rest[..], &pulled, &[0.0, 1.0]].concat());
+    assert_eq!(
+        [stvk[0], stvk[1], stvk[4], stvk[7]],
+        [1.125, -3.0, 3.0, 0.0]
+    );
+    assert_eq!(
+        refusal(STVK, &[&line[..], &pulled, &[0.0, 1.0]].concat()),
+        4
+    );
+    let huge = rest.map(|x| x * 2f64.powi(1000));
+    assert_eq!(
+        refusal(STVK, &[&huge[..], &pulled, &[0.0, 1.0]].concat()),
+        5
+    );
+
+    let plane = [0.0, 0.0, 1.0, 0.0, 0.0, 1.0];
+    assert_eq!(
+        values(STRAIN, &[&plane[..], &pulled].concat())[..3],
+        [1.5, 0.0, 0.0]
+    );
+
+    let pair = [0.0, 2.0, 0.0, 0.0, -2.0, 0.0, 0.0, 0.0, 0.0, 2.0, 0.0, 0.0];
+    let mut lifted = [0.0; 12];
+    lifted[2] = 1.0;
+    let bending = values(BENDING, &[pair, lifted].concat());
+    assert_eq!(bending[2].to_bits(), 0xbfeb_b67a_e858_4caa);
+}
+
+/// A norm beyond the range makes the unit normal a zero, and a cross beyond it a NaN.
+#[test]
+fn large_right_angles() {
+    for (e, sheet, pair) in [
+        (255, 0, 0),
+        (256, 4, 0),
+        (511, 4, 0),
+        (512, 5, 5),
+        (513, 5, 5),
+    ] {
+        let h = 2f64.powi(e);
+        let strain = [0.0, 0.0, h, 0.0, 0.0, h];
+        let stvk = [0.0, 0.0, 0.0, h, 0.0, 0.0, 0.0, h, 0.0];
+        let bending = [0.0, h, 0.0, 0.0, -h, 0.0, 0.0, 0.0, 0.0, h, 0.0, 0.0];
+        assert_eq!(
+            refusal(STRAIN, &[&strain[..], &[0.0; 9]].concat()),
+            sheet,
+            "strain, 2^{e}"
+        );
+        assert_eq!(
+            refusal(STVK, &[&stvk[..], &stvk, &[1.0; 2]].concat()),
+            sheet,
+            "stvk, 2^{e}"
+        );
+        assert_eq!(
+            refusal(BENDING, &[&bending[..], &[0.0; 12]].concat()),
+            pair,
+            "bending, 2^{e}"
+        );
+    }
+}
+
+/// The divisors as the scope lists them, among the constants of the sources.
+fn listed_divisors(kind: u64, x: &[f64]) -> Vec<f64> {
+    match kind {
+        BENDING => {
+            let [p0, p1, p2, p3] = points(x);
+            let len = edge::length(&p2, &p3);
+            let (area0, area1) = (tri3::area(&p0, &p2, &p3), tri3::area(&p1, &p3, &p2));
+            let (h0, h1) = (2.0 * area0 / len, 2.0 * area1 / len);
+            vec![len, len, h0, h0, h1, h1, (area0 + area1).sqrt() * len]
+        }
+        STRAIN => {
+            let [p0, p1, p2]: [[f64; 2]; 3] = points(x);
+            let gx = [p1[0] - p0[0], p1[1] - p0[1], 0.0];
+            let gy = [p2[0] - p0[0], p2[1] - p0[1], 0.0];
+            let normal = vec3::cross(&gx, &gy);
+            let twice_area = vec3::norm(&normal) * 0.5 * 2.0;
+            let gz = vec3::scale(&normal, 1.0 / twice_area);
+            let norms = [vec3::cross(&gy, &gz), vec3::cross(&gz, &gx)].map(|g| vec3::norm(&g));
+            vec![2.0, twice_area, norms[0], norms[1]]
+        }
+        STVK => {
+            let [p0, p1, p2] = points(x);
+            let (g0, g1) = (vec3::sub(&p1, &p0), vec3::sub(&p2, &p0));
+            let normal = vec3::norm(&vec3::cross(&g0, &g1));
+            let (g2, _) = tri3::unit_normal_area(&p0, &p1, &p2);
+            let dots = [
+                vec3::dot(&vec3::cross(&g1, &g2), &g0),
+                vec3::dot(&vec3::cross(&g2, &g0), &g1),
+            ];
+            vec![2.0, normal, dots[0], dots[1]]
+        }
+        PLATE => {
+            let [p0, p1, p2]: [[f64; 2]; 3] = points(x);
+            let g0 = [p1[0] - p0[0], p1[1] - p0[1], 0.0];
+            let g1 = [p2[0] - p0[0], p2[1] - p0[1], 0.0];
+            let g2 = [0.0, 0.0, 0.5 * x[15]];
+            let dots = [
+                vec3::dot(&vec3::cross(&g1, &g2), &g0),
+                vec3::dot(&vec3::cross(&g2, &g0), &g1),
+                vec3::dot(&vec3::cross(&g0, &g1), &g2),
+            ];
+            let root3 = 3f64.sqrt();
+            let points = [root3, 2.0, root3, 2.0, 3.0, 3.0, 3.0];
+            [vec![2.0, 4.0], dots.to_vec(), points.to_vec()].concat()
+        }
+        _ => unreachable!("no kernel"),
+    }
+}
+
+#[test]
+fn traced_divisors_are_the_listed_ones() {
+    for kind in KERNELS {
+        for record in sample(kind) {
+            let inputs = numbers_of(&record.words);
+            let traced = kernels::divisors(kind, &inputs);
+            assert!(
+                kernels::same(&traced, &listed_divisors(kind, &inputs)),
+                "{inputs:?}"
+            );
+        }
+    }
+}
+
+#[test]
+fn the_inverse_divides_by_three_dots() {
+    use crate::traced::{self, Traced};
+    let g = [[1.0, 2.0, 3.0], [4.0, -5.0, 6.0], [7.0, 8.0, -9.0]];
+    let (_, divisors) = traced::run(|| curve_linear_coords::inverse(&g.map(|row| row.map(Traced))));
+    let crosses = [(1, 2), (2, 0), (0, 1)].map(|(i, j)| vec3::cross(&g[i], &g[j]));
+    let dots: Vec<f64> = (0..3).map(|i| vec3::dot(&crosses[i], &g[i])).collect();
+    assert_eq!(divisors, dots);
+}
+
+/// Whether a finite record of the sample has zero divisors at these places alone.
+fn sampled_alone(kind: u64, places: &[usize]) -> bool {
+    sample(kind)
+        .iter()
+        .map(|record| numbers_of(&record.words))
+        .any(|inputs| {
+            let divisors = kernels::divisors(kind, &inputs);
+            let zeros: Vec<usize> = (0..divisors.len())
+                .filter(|i| divisors[*i] == 0.0)
+                .collect();
+            kernels::finite(&inputs) && zeros == places
+        })
+}
+
+#[test]
+fn divisors_vanish_alone_in_the_sample() {
+    assert!(sampled_alone(BENDING, &[2, 3]) && sampled_alone(BENDING, &[4, 5]));
+    assert!(sampled_alone(BENDING, &[0, 1, 6]));
+    for kind in [STRAIN, STVK] {
+        for place in 1..4 {
+            assert!(
+                sampled_alone(kind, &[place]),
+                "kind {kind}, divisor {place}"
+            );
+        }
+    }
+    for place in 2..5 {
+        assert!(sampled_alone(PLATE, &[place]), "divisor {place}");
+    }
+}
+
+#[test]
+fn the_sample_gives_every_refusal() {
+    for kind in KERNELS {
+        let numbers: Vec<u64> = sample(kind).iter().map(|r| answer(r).number).collect();
+        assert!(numbers.len() >= 400);
+        assert!(
+            [0, 3, 4, 5].iter().all(|n| numbers.contains(n)),
+            "kind {kind}"
+        );
+    }
+    let numbers: Vec<u64> = sample(record::MASSES)
+        .iter()
+        .map(|r| answer(r).number)
+        .collect();
+    assert!(numbers.len() >= 600);
+    assert!([0, 1, 2, 3, 5].iter().all(|n| numbers.contains(n)));
+}
+
+#[test]
+fn most_generated_records_are_accepted() {
+    for kind in KINDS {
+        let mut random = Random::of(11);
+        let accepted = (0..1000)
+            .filter(|_| answer(&generated(kind, &mut random)).number == 0)
+            .count();
+        assert!(accepted >= 500, "kind {kind}: {accepted}");
+    }
+}
+
+fn lines(words: &[u64], cut: usize) -> String {
+    let bytes: Vec<u8> = words.iter().flat_map(|word| word.to_be_bytes()).collect();
+    let mut out = Vec::new();
+    answer::write_lines(&bytes[..bytes.len() - cut], &mut out).unwrap();
+    String::from_utf8(out).unwrap()
+}
+
+#[test]
+fn malformed_records_end_the_answers() {
+    let four = 4f64.to_bits();
+    let good = "0000000000000000 4000000000000000\n";
+    assert_eq!(lines(&[], 0), "");
+    assert_eq!(lines(&[1, four], 0), good);
+    assert_eq!(lines(&[1, four, 1, four], 1), format!("{good}?\n"));
+    assert_eq!(lines(&[1, four, 1], 0), format!("{good}?\n"));
+    assert_eq!(lines(&[1, four, 1], 3), format!("{good}?\n"));
+    assert_eq!(lines(&[7, four, 1, four], 0), "?\n");
+    assert_eq!(lines(&[0, four], 0), "?\n");
+    for helper in [0, 12, u64::MAX] {
+        assert_eq!(
+            lines(&[[9, helper].to_vec(), vec![four; 9]].concat(), 0),
+            "?\n"
+        );
+    }
+    for place in 1..4 {
+        let mut masses = vec![0; 5000];
+        masses[0] = 6;
+        masses[place] = 4097;
+        assert_eq!(lines(&masses, 0), "?\n");
+    }
+    assert_eq!(lines(&[6, 0, 0, 0, four, four], 0), "0000000000000000\n");
+}
+
+#[test]
+fn written_records_are_read_back() {
+    for kind in KINDS {
+        let records = sample(kind);
+        let mut bytes = Vec::new();
+        records
+            .iter()
+            .for_each(|record| record.write(&mut bytes).unwrap());
+        let read: Vec<Record> = Records::of(&bytes).map(Result::unwrap).collect();
+        assert_eq!(read, records);
+    }
+}
+
+#[test]
+fn a_comparison_names_the_first_difference() {
+    let result = compare::compare("0 1\n0 2 3\n0 4\n", "0 1\n0 2 4\n1 4\n");
+    assert_eq!((result.compared, result.differ), (3, 2));
+    assert_eq!(result.first.unwrap(), "record 2, word 2: expected 3, got 4");
+}
