@@ -1,0 +1,74 @@
+// Words and numbers from standard input.
+ghost use Prim.Native.Nat.{_<_, _^_};
+use libc::STDIN_FILENO;
+
+pub(crate) enum Next {
+    Word(u64),
+    // The input ended before the word's first byte.
+    End,
+    // The input ended within the word.
+    Cut,
+}
+
+// A number; not ok where the input ended before its last byte.
+struct Number {
+    ok: bool,
+    x: f64,
+}
+
+// Numbers from the front of the array; not ok where the input ended before the last of them.
+pub(crate) struct Numbers {
+    pub ok: bool,
+    pub x: [f64; 9],
+}
+
+fn wide(b: u8) -> u64
+    ensures { λ r. ⌜ r < 256 ⌝ }
+{
+    b as u64
+}
+
+fn four_bytes(a: u8, b: u8, c: u8, d: u8) -> u64
+    ensures { λ r. ⌜ r < 2 ^ 32 ⌝ }
+{
+    ((wide(a) * 256 + wide(b)) * 256 + wide(c)) * 256 + wide(d)
+}
+
+pub(crate) fn next_word() -> Next {
+    let mut b = [0u8; 8];
+    let n = io::read_full(STDIN_FILENO, &mut b);
+    if n == 0 {
+        return Next::End;
+    }
+    if n < 8 {
+        return Next::Cut;
+    }
+    Next::Word(
+        four_bytes(b[0], b[1], b[2], b[3]) * 0x1_0000_0000 + four_bytes(b[4], b[5], b[6], b[7]),
+    )
+}
+
+fn next_number() -> Number {
+    match next_word() {
+        Next::Word(w) => Number {
+            ok: true,
+            x: float::of_word(w),
+        },
+        Next::End => Number { ok: false, x: 0.0 },
+        Next::Cut => Number { ok: false, x: 0.0 },
+    }
+}
+
+// The next count numbers, at most nine.
+pub(crate) fn next_numbers(count: usize) -> Numbers {
+    let mut x = [0.0; 9];
+    let mut ok = true;
+    for i in 0..9 {
+        if i < count {
+            let read = next_number();
+            x[i] = read.x;
+            ok = ok & read.ok;
+        }
+    }
+    Numbers { ok, x }
+}

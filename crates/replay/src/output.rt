@@ -1,0 +1,30 @@
+// Answer lines on standard output: words of 16 lower-case hexadecimal digits with one space between.
+use del_geo_core::vec3::V3;
+use libc::STDOUT_FILENO;
+
+pub(crate) fn start_line(number: u64) {
+    io::print_hex(STDOUT_FILENO, number, 16);
+}
+
+pub(crate) fn put_word(w: u64) {
+    io::write_all(STDOUT_FILENO, b" ");
+    io::print_hex(STDOUT_FILENO, w, 16);
+}
+
+pub(crate) fn put(x: f64) {
+    put_word(float::to_word(x));
+}
+
+pub(crate) fn put_v3(v: V3) {
+    put(v.x);
+    put(v.y);
+    put(v.z);
+}
+
+pub(crate) fn end_line() {
+    io::write_all(STDOUT_FILENO, b"\n");
+}
+
+pub(crate) fn unreadable() {
+    io::write_all(STDOUT_FILENO, b"?\n");
+}
