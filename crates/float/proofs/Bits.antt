@@ -34,7 +34,8 @@ below-no-nan f n h =
 
 pub above-nan : (f : Format) (n : ℕ) → ones f * hid f < n % top f → ofBits f n ≡ nan
 unfolding isNan
-above-nan f n h = nan-is (ofBits f n) (sym (nanBits-is f n) ∙ nanBits-above f n ∙ is-true (ltb (ones f * hid f) (n % top f)) (lt→ltb (ones f * hid f) (n % top f) h))
+above-nan f n h =
+    nan-is (ofBits f n) (sym (nanBits-is f n) ∙ nanBits-above f n ∙ is-true (ltb (ones f * hid f) (n % top f)) (lt→ltb (ones f * hid f) (n % top f) h))
   where
     nan-is : (v : Float) → isNan v ≡ true → v ≡ nan
     nan-is nan h = refl

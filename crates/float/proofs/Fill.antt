@@ -1,4 +1,5 @@
--- A list that loops fill, store by store. `run`: by one loop, at any places that the code works out; `rows`: by a loop in a loop; `fill`: one value from the front.
+-- A list that loops fill, store by store. `run`: by one loop, at any places that the code works out; `rows`: by a loop in a loop;
+-- `fill`: one value from the front.
 use mathlib.Core.Path.{_≡_, refl, _∙_, ap}
 use mathlib.Core.List.{List, [], _∷_, _++_, append-nil}
 use Prim.Native.Nat.{ℕ, zero, suc, _+_, _≤_, _<_}
@@ -13,7 +14,8 @@ module _ {A : Type 0} where
   run at f d zero = d
   run at f d (suc n) = set (run at f d n) (at n) (f n)
 
-  pub run-more : (at : ℕ → ℕ) (f : ℕ → A) (d : List A) (n : ℕ) {p : ℕ} {b : List A} {x : A} → p ≡ at n → x ≡ f n → b ≡ run at f d n → set b p x ≡ run at f d (n + 1)
+  pub run-more : (at : ℕ → ℕ) (f : ℕ → A) (d : List A) (n : ℕ) {p : ℕ} {b : List A} {x : A} → p ≡ at n → x ≡ f n → b ≡ run at f d n
+      → set b p x ≡ run at f d (n + 1)
   unfolding run
   run-more at f d n ep ex eb = rw (add-one, ep, ex, eb)
 
@@ -22,7 +24,8 @@ module _ {A : Type 0} where
   rows at f w d zero = d
   rows at f w d (suc n) = run (at n) (f n) (rows at f w d n) w
 
-  pub rows-more : (at : ℕ → ℕ → ℕ) (f : ℕ → ℕ → A) (w : ℕ) (d : List A) (n k : ℕ) {b₀ b : List A} → k ≡ w → b₀ ≡ rows at f w d n → b ≡ run (at n) (f n) b₀ k → b ≡ rows at f w d (n + 1)
+  pub rows-more : (at : ℕ → ℕ → ℕ) (f : ℕ → ℕ → A) (w : ℕ) (d : List A) (n k : ℕ) {b₀ b : List A} → k ≡ w → b₀ ≡ rows at f w d n
+      → b ≡ run (at n) (f n) b₀ k → b ≡ rows at f w d (n + 1)
   unfolding rows
   rows-more at f w d n k ek e₀ e = e ∙ rw (add-one, ek, e₀)
 

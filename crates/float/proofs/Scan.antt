@@ -26,7 +26,8 @@ module _ {A : Type 0} (p : A → Bool) where
   every-done l i h = rw (drop-of-length-le l h)
 
   -- a loop that goes to the end keeps ok && what is left
-  pub every-step : (l : List A) (i : ℕ) (d : A) (ok b : Bool) → i < length l → b ≡ p (getD l i d) → (ok && b && every p (drop (i + 1) l)) ≡ (ok && every p (drop i l))
+  pub every-step : (l : List A) (i : ℕ) (d : A) (ok b : Bool) → i < length l → b ≡ p (getD l i d)
+      → (ok && b && every p (drop (i + 1) l)) ≡ (ok && every p (drop i l))
   every-step l i d ok b h e = rw (add-one, drop-cons l i d h, every-cons, e, and-assoc)
 
   pub every-end : (l : List A) (i : ℕ) (ok r : Bool) → length l ≤ i → (ok && every p (drop i l)) ≡ r → ok ≡ r

@@ -1,16 +1,16 @@
 -- A row's number is given exactly where its test holds and that of no earlier row does: by induction on the rows.
-use mathlib.Core.Path.{_≡_, refl, sym, _∙_}
+use mathlib.Core.Path.{_≡_, refl, sym}
 use mathlib.Core.Bool.{Bool, true, false, not, cond, false≢true}
 use mathlib.Core.List.{List, [], _∷_, _++_}
 use mathlib.Core.Logic.{_↔_}
 use Prim.Native.Nat.{ℕ}
 use lib.Dec.{eqb}
-use borrow.Author.Tests.{eq-eqb}
+use borrow.Author.Tests.{eqb-false, not-true}
 use Rattle.float.proofs.Scan.{both}
 use Rattle.refusal.specs.Refusal.{accepted, Row, _⇒_, firstOf, noneOf, apart}
 
 unequal : (k n : ℕ) → not (eqb k n) ≡ true → k ≡ n → ⊥
-unequal k n h e = false≢true (sym (rw (eq-eqb k n e)) ∙ h)
+unequal k n h = eqb-false k n (not-true (eqb k n) h)
 
 absent : (n : ℕ) (rows : List Row) → apart n rows ≡ true → (n ≡ accepted → ⊥) → firstOf rows ≡ n → ⊥
 unfolding firstOf apart
@@ -19,7 +19,8 @@ absent n ((true, k) ∷ rows) a z e = unequal k n (both _ _ a .0) e
 absent n ((false, k) ∷ rows) a z e = absent n rows (both (not (eqb k n)) _ a .1) z e
 
 module _ (t : Bool) (n : ℕ) (after : List Row) where
-  reached : (before : List Row) → apart n before ≡ true → apart n after ≡ true → (n ≡ accepted → ⊥) → firstOf (before ++ (t ⇒ n) ∷ after) ≡ n → (noneOf before ≡ true) × (t ≡ true)
+  reached : (before : List Row) → apart n before ≡ true → apart n after ≡ true → (n ≡ accepted → ⊥)
+      → firstOf (before ++ (t ⇒ n) ∷ after) ≡ n → (noneOf before ≡ true) × (t ≡ true)
   unfolding firstOf noneOf apart
   reached [] a b z e = (refl, here t e)
     where
@@ -36,7 +37,8 @@ module _ (t : Bool) (n : ℕ) (after : List Row) where
   given ((false, k) ∷ before) h e = given before h e
 
   -- THE law of a refusal
-  pub exactly : (before : List Row) → apart n before ≡ true → apart n after ≡ true → (n ≡ accepted → ⊥) → firstOf (before ++ (t ⇒ n) ∷ after) ≡ n ↔ ((noneOf before ≡ true) × (t ≡ true))
+  pub exactly : (before : List Row) → apart n before ≡ true → apart n after ≡ true → (n ≡ accepted → ⊥)
+      → firstOf (before ++ (t ⇒ n) ∷ after) ≡ n ↔ ((noneOf before ≡ true) × (t ≡ true))
   exactly before a b z = (reached before a b z, λ h. given before (h .0) (h .1))
 
 -- nothing is refused exactly where no test holds

@@ -11,5 +11,6 @@ use Rattle.refusal.specs.declared.Energy.{Energy}
 pub first : (test : Bool) (number later : ℕ) {r q : ℕ} → r ≡ cond test number later → q ≡ cond test number later → r ≡ q
 first test number later = only
 
-pub answer-energy : (f : Format) (number : ℕ) (w : Float) (dw ddw : List Float) {r q : Energy} → r ≡ energyOf f number w dw ddw → q ≡ energyOf f number w dw ddw → r ≡ q
+pub answer-energy : (f : Format) (number : ℕ) (w : Float) (dw ddw : List Float) {r q : Energy} → r ≡ energyOf f number w dw ddw
+    → q ≡ energyOf f number w dw ddw → r ≡ q
 answer-energy f number w dw ddw = only

@@ -5,4 +5,8 @@ use Rattle.del_geo_core.proofs.curve_linear_coords.contravariant.Tie as
 
 pub contravariant-spec : {M : Type 1} → statement M
 unfolding contravariantOf
-contravariant-spec = tie.close (tie.spec (λ c κs. tt) (λ c κs. tt) (λ c κs. tt) (λ c. rw (c .over .ensures, c .before .dot .ensures, c .before .before .cross .ensures)))
+contravariant-spec = tie.close (tie.spec
+    (λ c κs. tt)
+    (λ c κs. tt)
+    (λ c κs. tt)
+    (λ c. rw (c .over .ensures, c .before .dot .ensures, c .before .before .cross .ensures)))

@@ -5,4 +5,8 @@ use Rattle.del_geo_core.proofs.tri3.normal.Tie as tie
 
 pub normal-spec : {M : Type 1} → statement M
 unfolding normalOf
-normal-spec = tie.close (tie.spec (λ c κs. tt) (λ c κs. tt) (λ c κs. tt) (λ c. rw (c .cross .ensures, c .before .sub2 .ensures, c .before .before .sub .ensures)))
+normal-spec = tie.close (tie.spec
+    (λ c κs. tt)
+    (λ c κs. tt)
+    (λ c κs. tt)
+    (λ c. rw (c .cross .ensures, c .before .sub2 .ensures, c .before .before .sub .ensures)))
