@@ -5,10 +5,11 @@ use Prim.Native.Nat.{ℕ, _*_, _%_, _≤_, _<_}
 use native.Mathlib.Nat.{lt-irrefl, lt-of-le-of-lt}
 use lib.IntN.{pos}
 use lib.Dec.{T, ltb, lt→ltb, ltb→lt, not-T}
-use lib.Ieee.{Float, nan, inf, fin, Format, binary32, binary64, top, hid, ones, ofBits, isNan, nanBits, div, ne, lt, neg}
+use lib.Ieee.{Float, nan, inf, fin, Format, binary32, binary64, top, hid, ones, ofBits, toBits, isNan, nanBits, div, ne, lt, neg}
 use lib.Ieee.Bits.{is-true, nanBits-is, nanBits-above}
 use lib.Ieee.Compare.{differs-from-itself, nan-differs}
 use lib.Ieee.Scale.{finite}
+use Rattle.float.specs.Numbers.{nanWord}
 
 -- ---- the special patterns
 pub zero-bits : (f : Format) → ofBits f 0 ≡ fin false 0 (pos 0)
@@ -26,6 +27,11 @@ pub no-number : (f : Format) → div f (ofBits f 0) (ofBits f 0) ≡ nan
 unfolding div ofBits
 no-number binary32 = refl
 no-number binary64 = refl
+
+pub nan-bits : (f : Format) → toBits f nan ≡ nanWord f
+unfolding toBits
+nan-bits binary32 = refl
+nan-bits binary64 = refl
 
 -- ---- NaNs: by the pattern, and by x != x
 pub below-no-nan : (f : Format) (n : ℕ) → n % top f ≤ ones f * hid f → T (not (nanBits f n))

@@ -9,10 +9,12 @@ use lib.Dec.{T, ltb, leb, ltb→lt, nltb→le, leb→le, nleb→lt, lit≤}
 use lib.IntN.{ℤ}
 use lib.Pow.{pow-add, pow-pos, pow-mono, shl-lt}
 use lib.Ieee.{Float, nan, inf, fin, Format, binary32, binary64, prec, emax, low, up, down, size, odd, hid, fits, ofBits, toBits}
-use lib.Ieee.Bits.{ofBits-toBits}
+use lib.Ieee.Bits.{ofBits-toBits, ofBits-fits}
 use lib.Ieee.Digits.{size-lt, size-le, size-reaches}
 use lib.Ieee.Exact.{odd-sign}
 use lib.Ieee.Fits.{two, down-pos, odd-fits}
+use Rattle.float.specs.Numbers.{nanWord}
+use Rattle.float.proofs.Bits.{nan-bits}
 use Rattle.float.proofs.Value.{Written, written, place}
 use Rattle.root.specs.Root.{Close, Nearest, IsRoot, SquareRoot, SquareRootWord, isqrt, nearestRoot, rootOf, rootWordOf}
 use Rattle.root.proofs.Core.{stays, goes-up, root-pos}
@@ -127,3 +129,8 @@ answered f x r h a = record { rule = a; same = is-rootOf f x r h a }
 pub answered-word : (f : Format) (w r : ℕ) (x y : Float) → T (fits f y) → x ≡ ofBits f w → SquareRoot f x y → r ≡ toBits f y → SquareRootWord f w r
 unfolding rootWordOf
 answered-word f w r x y h i a o = record { rule = rw (o, ofBits-toBits f y h, sym i) (a .rule); same = rw (o, a .same, i) }
+
+-- where the rule's answer is the NaN, the word is that of the one NaN
+pub nan-word : (f : Format) (w : ℕ) → IsRoot f (ofBits f w) nan → rootWordOf f w ≡ nanWord f
+unfolding rootWordOf
+nan-word f w a = rw (← is-rootOf f (ofBits f w) nan (ofBits-fits f w) a) (nan-bits f)
