@@ -6,7 +6,7 @@ use lib.Dec.{T}
 use lib.Ieee.{Float, Format, prec, low, round, fits}
 use Rattle.rounding.specs.Exact.{Num, Equal, _⊟_, scale, sizeOf, signed, value}
 
--- |K x - y| is at most c / P of S
+-- |K x - y| is at most c / P of S: the form of 01-scope 6.2, multiplied out
 pub record Within (P c K : ℕ) (x y : Num) (S : ℕ) : Type 0 where
   pub within : sizeOf (scale K x ⊟ y) * P ≤ c * S
 

@@ -1,4 +1,4 @@
--- Exact signed numbers, each a difference of two natural ones, and the exact value of a float as such a number of its format's smallest value, 2 ^ -low.
+-- Exact signed numbers, each a difference of two natural ones, and the exact value of a float (01-scope 6.1) in units of its format's smallest one, 2 ^ -low.
 use mathlib.Core.Path.{_≡_}
 use mathlib.Core.Bool.{Bool, true, false}
 use Prim.Native.Nat.{ℕ, _+_, _-_, _*_, _/_, _^_}
