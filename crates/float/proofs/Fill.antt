@@ -1,12 +1,13 @@
--- A list that loops fill, store by store. `run`: by one loop, at any places that the code works out; `rows`: by a loop in a loop;
--- `fill`: one value from the front.
-use mathlib.Core.Path.{_≡_, refl, _∙_, ap}
-use mathlib.Core.List.{List, [], _∷_, _++_, append-nil}
-use Prim.Native.Nat.{ℕ, zero, suc, _+_, _≤_, _<_}
-use native.Mathlib.Nat.{not-suc-le-zero, le-of-suc-le-suc}
+-- A list that loops fill, store by store. `run`: by one loop, at any places that the code works out; `rows`: by a loop in a loop.
+-- A run over the places 0, 1, .. is a table, and what it has not reached is as it was.
+use mathlib.Core.Path.{_≡_, refl, ap, _∙_}
+use mathlib.Core.List.{List, [], _∷_, _++_, append-assoc, append-nil}
+use Prim.Native.Nat.{ℕ, zero, suc, _+_, _≤_}
 use native.Mathlib.Numerals.{add-one}
 use native.Mathlib.Omega.{arith}
-use lib.ListN.{length, set, drop, replicate, drop-of-length-le}
+use lib.ListN.{length, getD, set, drop, replicate, length-set, length-append, drop-of-length-le}
+use lib.Seq.{drop-cons, set-append-seam}
+use Rattle.float.specs.Lists.{table}
 
 module _ {A : Type 0} where
   -- after n turns, the turn i having stored f i at the place `at i`
@@ -19,6 +20,11 @@ module _ {A : Type 0} where
   unfolding run
   run-more at f d n ep ex eb = rw (add-one, ep, ex, eb)
 
+  pub run-length : (at : ℕ → ℕ) (f : ℕ → A) (d : List A) (n : ℕ) → length (run at f d n) ≡ length d
+  unfolding run
+  run-length at f d zero = refl
+  run-length at f d (suc n) = length-set (run at f d n) (at n) (f n) ∙ run-length at f d n
+
   -- after n rows of w such turns
   unfoldable pub rows : (at : ℕ → ℕ → ℕ) (f : ℕ → ℕ → A) (w : ℕ) (d : List A) → ℕ → List A
   rows at f w d zero = d
@@ -29,14 +35,31 @@ module _ {A : Type 0} where
   unfolding rows
   rows-more at f w d n k ek e₀ e = e ∙ rw (add-one, ek, e₀)
 
-  -- one value from the front (`borrow.Author.Fill` has it for whole numbers alone)
-  fill-suc : (n : ℕ) (v : A) (d : List A) → n < length d → set (replicate n v ++ drop n d) n v ≡ replicate (suc n) v ++ drop (suc n) d
-  fill-suc n v [] l = absurd (not-suc-le-zero l)
-  fill-suc zero v (x ∷ d) l = refl
-  fill-suc (suc n) v (x ∷ d) l = ap (λ (t : List A). v ∷ t) (fill-suc n v d (le-of-suc-le-suc l))
+  -- ---- from the front
+  table-length : (f : ℕ → A) (n : ℕ) → length (table n f) ≡ n
+  unfolding table
+  table-length f zero = refl
+  table-length f (suc n) = length-append (table n f) (f n ∷ []) ∙ omega (arith, table-length f n)
 
-  pub fill-more : (n : ℕ) (v : A) (d : List A) {b : List A} → n < length d → b ≡ replicate n v ++ drop n d → set b n v ≡ replicate (n + 1) v ++ drop (n + 1) d
-  fill-more n v d l e = rw (e, add-one) (fill-suc n v d l)
+  pub run-table : (f : ℕ → A) (d : List A) (n : ℕ) → n ≤ length d → run (λ i. i) f d n ≡ table n f ++ drop n d
+  unfolding run table
+  run-table f d zero h = refl
+  run-table f d (suc n) h =
+      rw (run-table f d n (omega arith), drop-cons d n (f n) h, append-assoc)
+      (rw (table-length f n) at (set-append-seam (table n f) (getD d n (f n)) (drop (suc n) d) (f n)))
 
-  pub fill-done : (n : ℕ) (v : A) (d : List A) {b : List A} → n ≡ length d → b ≡ replicate n v ++ drop n d → b ≡ replicate (length d) v
-  fill-done n v d h e = let g : length d ≤ n = omega arith in e ∙ rw (drop-of-length-le d g, append-nil, h)
+  -- the whole list
+  pub run-all : (f : ℕ → A) (d : List A) → run (λ i. i) f d (length d) ≡ table (length d) f
+  run-all f d =
+      let h : length d ≤ length d = omega arith in
+      run-table f d (length d) h ∙ rw (drop-of-length-le d h, append-nil)
+
+  -- with one value
+  pub table-same : (v : A) (n : ℕ) → table n (λ i. v) ≡ replicate n v
+  unfolding table
+  table-same v zero = refl
+  table-same v (suc n) = rw (table-same v n) (more n)
+    where
+      more : (n : ℕ) → replicate n v ++ (v ∷ []) ≡ replicate (suc n) v
+      more zero = refl
+      more (suc n) = ap (λ (l : List A). v ∷ l) (more n)

@@ -21,10 +21,10 @@ rescale (fin t m e) s w l num den p h v = (v .0, eq-of-mul-eq-mul-right l p (m *
     go x d k = omega (arith, ap (λ (z : ℕ). z * den) k, ap (λ (z : ℕ). z * d) h)
 
 -- two fractions of one value
-pub cross : (x : Float) (s : Bool) (a c b d : ℕ) → HasValue x s a c → HasValue x s b d → a * d ≡ b * c
-cross nan s a c b d v w = absurd v
-cross (inf t) s a c b d v w = absurd v
-cross (fin t m e) s a c b d v w = eq-of-mul-eq-mul-right (down e) (down-pos e) (a * d) (b * c) (go (m * up e) (down e) (v .1) (w .1))
+pub fractions-agree : (x : Float) (s : Bool) (a c b d : ℕ) → HasValue x s a c → HasValue x s b d → a * d ≡ b * c
+fractions-agree nan s a c b d v w = absurd v
+fractions-agree (inf t) s a c b d v w = absurd v
+fractions-agree (fin t m e) s a c b d v w = eq-of-mul-eq-mul-right (down e) (down-pos e) (a * d) (b * c) (go (m * up e) (down e) (v .1) (w .1))
   where
     go : (x k : ℕ) → x * c ≡ a * k → x * d ≡ b * k → a * d * k ≡ b * c * k
     go x k h g = omega (arith, ap (λ (z : ℕ). z * d) h, ap (λ (z : ℕ). z * c) g)

@@ -6,6 +6,7 @@ use mathlib.Core.Logic.{_↔_}
 use Prim.Native.Nat.{ℕ}
 use lib.Dec.{eqb}
 use borrow.Author.Tests.{eqb-false, not-true}
+use Rattle.float.specs.Lists.{every}
 use Rattle.float.proofs.Scan.{both}
 use Rattle.refusal.specs.Refusal.{accepted, Row, _⇒_, firstOf, noneOf, apart}
 
@@ -13,7 +14,7 @@ unequal : (k n : ℕ) → not (eqb k n) ≡ true → k ≡ n → ⊥
 unequal k n h = eqb-false k n (not-true (eqb k n) h)
 
 absent : (n : ℕ) (rows : List Row) → apart n rows ≡ true → (n ≡ accepted → ⊥) → firstOf rows ≡ n → ⊥
-unfolding firstOf apart
+unfolding firstOf every
 absent n [] a z e = z (sym e)
 absent n ((true, k) ∷ rows) a z e = unequal k n (both _ _ a .0) e
 absent n ((false, k) ∷ rows) a z e = absent n rows (both (not (eqb k n)) _ a .1) z e
@@ -21,7 +22,7 @@ absent n ((false, k) ∷ rows) a z e = absent n rows (both (not (eqb k n)) _ a .
 module _ (t : Bool) (n : ℕ) (after : List Row) where
   reached : (before : List Row) → apart n before ≡ true → apart n after ≡ true → (n ≡ accepted → ⊥)
       → firstOf (before ++ (t ⇒ n) ∷ after) ≡ n → (noneOf before ≡ true) × (t ≡ true)
-  unfolding firstOf noneOf apart
+  unfolding firstOf every
   reached [] a b z e = (refl, here t e)
     where
       here : (t : Bool) → cond t n (firstOf after) ≡ n → t ≡ true
@@ -31,7 +32,7 @@ module _ (t : Bool) (n : ℕ) (after : List Row) where
   reached ((false, k) ∷ before) a b z e = reached before (both (not (eqb k n)) _ a .1) b z e
 
   given : (before : List Row) → noneOf before ≡ true → t ≡ true → firstOf (before ++ (t ⇒ n) ∷ after) ≡ n
-  unfolding firstOf noneOf
+  unfolding firstOf every
   given [] h e = rw e
   given ((true, k) ∷ before) h e = absurd (false≢true h)
   given ((false, k) ∷ before) h e = given before h e
@@ -43,7 +44,7 @@ module _ (t : Bool) (n : ℕ) (after : List Row) where
 
 -- nothing is refused exactly where no test holds
 pub accepted-exactly : (rows : List Row) → apart accepted rows ≡ true → firstOf rows ≡ accepted ↔ noneOf rows ≡ true
-unfolding firstOf noneOf apart
+unfolding firstOf every
 accepted-exactly [] a = ((λ e. refl), (λ e. refl))
 accepted-exactly ((true, k) ∷ rows) a = ((λ e. absurd (unequal k accepted (both _ _ a .0) e)), (λ e. absurd (false≢true e)))
 accepted-exactly ((false, k) ∷ rows) a = accepted-exactly rows (both (not (eqb k accepted)) _ a .1)

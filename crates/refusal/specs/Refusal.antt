@@ -1,8 +1,9 @@
 -- The refusal numbers by name, and the ladder that picks one (01-scope 2.1).
-use mathlib.Core.Bool.{Bool, true, not, cond, _&&_}
+use mathlib.Core.Bool.{Bool, not, cond}
 use mathlib.Core.List.{List, [], _∷_}
 use Prim.Native.Nat.{ℕ}
 use lib.Dec.{eqb}
+use Rattle.float.specs.Lists.{every}
 
 abbrev pub accepted : ℕ
 accepted = 0
@@ -41,11 +42,9 @@ firstOf [] = accepted
 firstOf (row ∷ rows) = cond (row .0) (row .1) (firstOf rows)
 
 -- no test of these rows holds
-unfoldable pub noneOf : List Row → Bool
-noneOf [] = true
-noneOf (row ∷ rows) = not (row .0) && noneOf rows
+abbrev pub noneOf : List Row → Bool
+noneOf rows = every (λ row. not (row .0)) rows
 
 -- n is the number of none of these rows
-unfoldable pub apart : ℕ → List Row → Bool
-apart n [] = true
-apart n (row ∷ rows) = not (eqb (row .1) n) && apart n rows
+abbrev pub apart : ℕ → List Row → Bool
+apart n rows = every (λ row. not (eqb (row .1) n)) rows

@@ -7,7 +7,7 @@ mod output;
 use input::Next;
 
 // What became of a record.
-pub(crate) enum Outcome {
+enum Outcome {
     Answered,
     Ended,
     Unreadable,

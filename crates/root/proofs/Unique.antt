@@ -8,7 +8,7 @@ use lib.IntN.{ℤ, pos, negsuc}
 use lib.Pow.{pow-add, pow-pos, pow-mono}
 use lib.Ieee.{Float, nan, inf, fin, Format, prec, up, down, hid}
 use lib.Ieee.Fits.{up-pos, down-pos}
-use Rattle.float.proofs.Value.{rescale, cross, one-float}
+use Rattle.float.proofs.Value.{rescale, fractions-agree, one-float}
 use Rattle.root.specs.Root.{Close, Nearest, IsRoot, SquareRoot, SquareRootWord}
 use Rattle.root.proofs.Rule.{powers}
 
@@ -56,7 +56,7 @@ sized f x r n = (omega (arith, powers f .1, n .M-from), omega (arith, powers f .
 
 nearest-unique : (f : Format) (x r q : Float) → Nearest f x r → Nearest f x q → r ≡ q
 nearest-unique f x r q n o =
-    let s = one-scale (hid f * hid f) (n .M) (o .M) (n .k) (o .k) (sized f x r n) (sized f x q o) (cross x false _ _ _ _ (n .x-is) (o .x-is)) in
+    let s = one-scale (hid f * hid f) (n .M) (o .M) (n .k) (o .k) (sized f x r n) (sized f x q o) (fractions-agree x false _ _ _ _ (n .x-is) (o .x-is)) in
     let R = one-nearest (o .M) (n .R) (o .R) (rw (s .0) at (n .close)) (o .close) in
     let e = equal (n .R) (o .R) (up (n .k)) (down (n .k)) (up (o .k)) (down (o .k)) R (s .1) in
     let v = rescale q false _ _ (n .R * up (n .k)) (down (n .k)) (down-pos (o .k)) e (o .r-is) in

@@ -15,7 +15,7 @@ use Rattle.rounding.specs.Exact.{Num, Equal, _⊞_, _⊠_, scale, sizeOf
 use Rattle.rounding.specs.Error.{Within, Rounded, AtLeast, Normal, Err, Near, Chain}
 use Rattle.rounding.proofs.Num.{size-signed, size-equal, size-scale, size-product}
 use Rattle.rounding.proofs.Nearest.{top-digit}
-use Rattle.rounding.proofs.Value.{above-zero}
+use Rattle.rounding.proofs.Value.{positive-value}
 use Rattle.rounding.proofs.Operations.{div-finite}
 use Rattle.rounding.proofs.Rounding.{add-rounded, mul-rounded, div-rounded}
 use Rattle.rounding.proofs.Error.{err-exact, err-same, err-more, err-sum, err-product, err-round, err-size, err-change, err-within}
@@ -101,7 +101,7 @@ module _ (f : Format) where
     div-whole d d+ n e t h =
         let L = 2 ^ low f in
         let L+ : 0 < L = pow-pos (low f) in
-        let w = above-zero f z (d * L) (mul-pos d+ L+) e in
+        let w = positive-value f z (d * L) (mul-pos d+ L+) e in
         let l : AtLeast (2 ^ prec f * (d * L * K)) (y ⊠ signed false L) =
         λ p. le-trans (turn (2 ^ prec f) L) (at-least-product _ L y (signed false L) (size-signed _ false L refl) h p) in
         chain-change 1 L L+ (mul-pos d+ (a .some)) (omega arith) (times L) (rw (w .0, w .1) at (div-chain n t (rw (w .0, w .1) l)))

@@ -14,7 +14,7 @@ use Rattle.rounding.specs.Exact.{Num, Equal, _⊞_, _⊟_, _⊠_, opposi
 use Rattle.rounding.specs.Error.{NearestTo}
 use Rattle.rounding.specs.Dyadic.{Held, Dyad, Room}
 use Rattle.rounding.proofs.Num.{size-equal, size-scale, size-sum, size-product, product-scale}
-use Rattle.rounding.proofs.Value.{above-zero, opposite-value, opposite-number}
+use Rattle.rounding.proofs.Value.{positive-value, opposite-value, opposite-number}
 use Rattle.rounding.proofs.Operations.{add-nearest, mul-nearest, div-nearest}
 use Rattle.rounding.proofs.Rounding.{nearest-exact}
 
@@ -76,7 +76,7 @@ module _ (f : Format) where
     pub dyad-div : {y : Float} {i C : ℕ} (k : ℕ) → j + low f ≡ k + i → Room f k → Dyad f x j n B → Dyad f y i (signed false 1) C → B < 2 ^ prec f
         → Dyad f (x ⊘ y) k n B
     dyad-div {y} {i} k e room a b h =
-        let w = above-zero f y (2 ^ i) (pow-pos i) (omega (arith, b .is)) in
+        let w = positive-value f y (2 ^ i) (pow-pos i) (omega (arith, b .is)) in
         let d = go (2 ^ j) (2 ^ k) (2 ^ i) (2 ^ low f) (pow-eq j (low f) k i e) (a .is) in
         let q = div-nearest f x y (a .number) (b .number) (rw (w .1) (pow-pos i)) in
         let r = exactly f (mag f y) (x ⊘ y) _ k n q room (rw (w .0, w .1) d) (lt-of-le-of-lt (a .small) h) in

@@ -34,9 +34,9 @@ unfolding value
 size-value f x = size-signed (value f x) (sign x) (mag f x) refl
 
 -- a value above zero
-pub above-zero : (f : Format) (x : Float) (n : ℕ) → 0 < n → Equal (value f x) (signed false n) → (sign x ≡ false) × (mag f x ≡ n)
+pub positive-value : (f : Format) (x : Float) (n : ℕ) → 0 < n → Equal (value f x) (signed false n) → (sign x ≡ false) × (mag f x ≡ n)
 unfolding value
-above-zero f x n h = go (sign x) (mag f x)
+positive-value f x n h = go (sign x) (mag f x)
   where
     go : (s : Bool) (a : ℕ) → Equal (signed s a) (signed false n) → (s ≡ false) × (a ≡ n)
     go false a e = (refl, omega arith)
