@@ -1,9 +1,15 @@
 -- Vectors of three numbers, over the format (01-scope 3.2: dot, cross, sub, scale, norm, normalize).
+use mathlib.Core.Bool.{Bool, _&&_}
 use lib.Ieee.{Float, Format}
+use lib.Ieee.Scale.{finite}
 use Rattle.float.specs.Ops.{Ops, ops}
 use Rattle.root.specs.Root.{rootOf}
 use Rattle.del_geo_core.specs.declared.vec3.V3.{V3}
 use Rattle.del_geo_core.specs.declared.vec3.Divided.{Divided}
+
+-- a test that a kernel makes of its corners (01-scope 2.1: 3)
+unfoldable pub isFiniteOf : V3 → Bool
+isFiniteOf a = finite (a .x) && finite (a .y) && finite (a .z)
 
 module _ (f : Format) where
   open Ops (ops f) using (_⊕_, _⊖_, _⊗_, _⊘_, one)

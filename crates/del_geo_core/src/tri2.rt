@@ -1,11 +1,48 @@
 // Triangles in the plane.
 ghost use mathlib.Core.Path.{_≡_};
 ghost use lib.Ieee.{binary64};
-ghost use Rattle.del_geo_core.specs.Tri2.{areaOf};
+ghost use Rattle.del_geo_core.specs.Tri2.{areaOf, cornersOf, isFiniteOf};
 
 pub struct V2 {
     pub x: f64,
     pub y: f64,
+}
+
+pub struct Tri2 {
+    pub p0: V2,
+    pub p1: V2,
+    pub p2: V2,
+}
+
+// p[1][0] is p1.x from here on.
+pub fn corners(p: [[f64; 2]; 3]) -> Tri2
+    ensures { λ r. ⌜ r ≡ cornersOf p ⌝ }
+{
+    let p0 = V2 {
+        x: p[0][0],
+        y: p[0][1],
+    };
+    let p1 = V2 {
+        x: p[1][0],
+        y: p[1][1],
+    };
+    let p2 = V2 {
+        x: p[2][0],
+        y: p[2][1],
+    };
+    Tri2 { p0, p1, p2 }
+}
+
+// Whether all six numbers are finite.
+pub fn is_finite(p: Tri2) -> bool
+    ensures { λ r. ⌜ r ≡ isFiniteOf p ⌝ }
+{
+    float::is_finite(p.p0.x)
+        & float::is_finite(p.p0.y)
+        & float::is_finite(p.p1.x)
+        & float::is_finite(p.p1.y)
+        & float::is_finite(p.p2.x)
+        & float::is_finite(p.p2.y)
 }
 
 // The signed area: negative where the corners run clockwise.

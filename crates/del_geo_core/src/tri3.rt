@@ -1,15 +1,50 @@
 // Triangles in space.
 ghost use mathlib.Core.Path.{_≡_};
 ghost use lib.Ieee.{binary64};
-ghost use Rattle.del_geo_core.specs.Tri3.{normalOf, areaOf, unitNormalAreaOf};
+ghost use Rattle.del_geo_core.specs.Tri3.{cornersOf, isFiniteOf, normalOf, areaOf, unitNormalAreaOf};
 use crate::vec3;
 use crate::vec3::Divided;
 use crate::vec3::V3;
+
+pub struct Tri3 {
+    pub p0: V3,
+    pub p1: V3,
+    pub p2: V3,
+}
 
 // The unit normal with the norm that divided it, and the area.
 pub struct NormalArea {
     pub normal: Divided,
     pub area: f64,
+}
+
+// p[1][0] is p1.x from here on.
+pub fn corners(p: [[f64; 3]; 3]) -> Tri3
+    ensures { λ r. ⌜ r ≡ cornersOf p ⌝ }
+{
+    let p0 = V3 {
+        x: p[0][0],
+        y: p[0][1],
+        z: p[0][2],
+    };
+    let p1 = V3 {
+        x: p[1][0],
+        y: p[1][1],
+        z: p[1][2],
+    };
+    let p2 = V3 {
+        x: p[2][0],
+        y: p[2][1],
+        z: p[2][2],
+    };
+    Tri3 { p0, p1, p2 }
+}
+
+// Whether all nine numbers are finite.
+pub fn is_finite(p: Tri3) -> bool
+    ensures { λ r. ⌜ r ≡ isFiniteOf p ⌝ }
+{
+    vec3::is_finite(p.p0) & vec3::is_finite(p.p1) & vec3::is_finite(p.p2)
 }
 
 // Across the edges from p0: twice the area long.

@@ -1,7 +1,7 @@
 // Vectors of three numbers.
 ghost use mathlib.Core.Path.{_≡_};
 ghost use lib.Ieee.{binary64};
-ghost use Rattle.del_geo_core.specs.Vec3.{dotOf, crossOf, subOf, scaleOf, normOf, overOf, unitOf, normalizeOf};
+ghost use Rattle.del_geo_core.specs.Vec3.{dotOf, crossOf, subOf, scaleOf, normOf, overOf, unitOf, normalizeOf, isFiniteOf};
 
 pub struct V3 {
     pub x: f64,
@@ -76,4 +76,11 @@ pub fn normalize(a: V3) -> V3
     ensures { λ r. ⌜ r ≡ normalizeOf binary64 a ⌝ }
 {
     unit(a).v
+}
+
+// Whether all three numbers are finite.
+pub fn is_finite(a: V3) -> bool
+    ensures { λ r. ⌜ r ≡ isFiniteOf a ⌝ }
+{
+    float::is_finite(a.x) & float::is_finite(a.y) & float::is_finite(a.z)
 }

@@ -5,6 +5,7 @@ use mathlib.Core.List.{List}
 use Prim.Native.Nat.{ℕ}
 use lib.Ieee.{Float, Format, ofBits, toBits}
 use lib.Ieee.Scale.{finite}
+use Rattle.float.specs.Numbers.{isZero}
 use Rattle.float.specs.Lists.{allFinite}
 
 -- the general law: every statement of the form r ≡ fOf .. is an instance
@@ -13,6 +14,9 @@ only e g = e ∙ sym g
 
 pub is-finite : (x : Float) {r q : Bool} → r ≡ finite x → q ≡ finite x → r ≡ q
 is-finite x = only
+
+pub is-zero : (x : Float) {r q : Bool} → r ≡ isZero x → q ≡ isZero x → r ≡ q
+is-zero x = only
 
 pub all-finite : (xs : List Float) {r q : Bool} → r ≡ allFinite xs → q ≡ allFinite xs → r ≡ q
 all-finite xs = only

@@ -2,6 +2,7 @@
 ghost use mathlib.Core.Path.{_≡_};
 ghost use lib.Ieee.{binary64, ofBits, toBits};
 ghost use lib.Ieee.Scale.{finite};
+ghost use Rattle.float.specs.Numbers.{isZero};
 ghost use Rattle.float.specs.Lists.{allFinite};
 
 // The bits of the one NaN (01-scope 4.2).
@@ -13,6 +14,13 @@ pub fn is_finite(x: f64) -> bool
 {
     let top = f64::from_bits(0x7ff0_0000_0000_0000);
     (x < top) & (-top < x)
+}
+
+// Whether x is a zero of either sign.
+pub fn is_zero(x: f64) -> bool
+    ensures { λ r. ⌜ r ≡ isZero x ⌝ }
+{
+    x == 0.0
 }
 
 // Whether every number of the list is finite.

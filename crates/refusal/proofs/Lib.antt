@@ -1,2 +1,4 @@
 pub mod Ladder
+pub mod KernelNumber
+pub mod Answers
 pub mod Unique

@@ -1,15 +1,20 @@
--- No second answer fits the statements of `first` and `answer_energy`: each is an equation with a definition.
+-- No second answer fits the statements of `first`, `kernel` and `answer_energy`: each is an equation with a definition.
 use mathlib.Core.Path.{_≡_}
 use mathlib.Core.Bool.{Bool, cond}
 use mathlib.Core.List.{List}
 use Prim.Native.Nat.{ℕ}
 use lib.Ieee.{Float, Format}
 use Rattle.float.proofs.Unique.{only}
+use Rattle.refusal.specs.Refusal.{kernelNumber}
 use Rattle.refusal.specs.Answers.{energyOf}
 use Rattle.refusal.specs.declared.Energy.{Energy}
 
 pub first : (test : Bool) (number later : ℕ) {r q : ℕ} → r ≡ cond test number later → q ≡ cond test number later → r ≡ q
 first test number later = only
+
+pub kernel : (inputBad divisorZero answerBad : Bool) {r q : ℕ} → r ≡ kernelNumber inputBad divisorZero answerBad → q ≡ kernelNumber inputBad divisorZero answerBad
+    → r ≡ q
+kernel inputBad divisorZero answerBad = only
 
 pub answer-energy : (f : Format) (number : ℕ) (w : Float) (dw ddw : List Float) {r q : Energy} → r ≡ energyOf f number w dw ddw
     → q ≡ energyOf f number w dw ddw → r ≡ q

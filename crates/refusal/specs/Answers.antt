@@ -15,6 +15,5 @@ module _ (f : Format) where
   -- an energy, its gradient and its Hessian, flat in the source's order
   unfoldable pub energyOf : (number : ℕ) (w : Float) (dw ddw : List Float) → Energy
   energyOf number w dw ddw =
-      cond (eqb number accepted)
-      (record { number = number; w = w; dw = dw; ddw = ddw })
-      (record { number = number; w = zero; dw = replicate 9 zero; ddw = replicate 81 zero })
+      let keep = eqb number accepted in
+      record { number = number; w = cond keep w zero; dw = cond keep dw (replicate 9 zero); ddw = cond keep ddw (replicate 81 zero) }

@@ -41,6 +41,10 @@ unfoldable pub firstOf : List Row → ℕ
 firstOf [] = accepted
 firstOf (row ∷ rows) = cond (row .0) (row .1) (firstOf rows)
 
+-- a kernel's ladder: a number that it looks at is not finite, one of its divisors is zero, a number of its finished answer is not finite
+unfoldable pub kernelNumber : (inputBad divisorZero answerBad : Bool) → ℕ
+kernelNumber inputBad divisorZero answerBad = firstOf (inputBad ⇒ badInput ∷ divisorZero ⇒ zeroDivisor ∷ answerBad ⇒ badAnswer ∷ [])
+
 -- no test of these rows holds
 abbrev pub noneOf : List Row → Bool
 noneOf rows = every (λ row. not (row .0)) rows

@@ -2,6 +2,7 @@
 ghost use mathlib.Core.Path.{_≡_};
 ghost use mathlib.Core.Bool.{cond};
 ghost use lib.Ieee.{binary64};
+ghost use Rattle.refusal.specs.Refusal.{kernelNumber};
 ghost use Rattle.refusal.specs.Answers.{energyOf};
 
 pub const ACCEPTED: u32 = 0;
@@ -29,6 +30,16 @@ pub fn first(test: bool, number: u32, later: u32) -> u32
     ensures { λ r. ⌜ r ≡ cond test number later ⌝ }
 {
     if test { number } else { later }
+}
+
+// The number of a kernel: 3 where a number that it looks at is not finite, else 4 where one of its divisors is zero, else 5 where a number of its finished answer is
+// not finite.
+pub fn kernel(bad_input: bool, zero_divisor: bool, bad_answer: bool) -> u32
+    ensures { λ r. ⌜ r ≡ kernelNumber «bad_input» «zero_divisor» «bad_answer» ⌝ }
+{
+    let last = first(bad_answer, BAD_ANSWER, ACCEPTED);
+    let later = first(zero_divisor, ZERO_DIVISOR, last);
+    first(bad_input, BAD_INPUT, later)
 }
 
 // The values where nothing is refused, else +0 throughout.

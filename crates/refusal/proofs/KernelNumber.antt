@@ -1,0 +1,58 @@
+-- When a kernel gives which number, test by test: instances of the ladder's law.
+use mathlib.Core.Path.{_≡_, refl}
+use mathlib.Core.Bool.{Bool, true, false, false≢true, true≢false}
+use mathlib.Core.List.{List, [], _∷_}
+use mathlib.Core.Logic.{_↔_}
+use Prim.Native.Nat.{ℕ}
+use borrow.Author.Tests.{eqb-false}
+use Rattle.float.specs.Lists.{every}
+use Rattle.refusal.specs.Refusal.{accepted, badInput, zeroDivisor, badAnswer, Row, _⇒_, noneOf, kernelNumber}
+use Rattle.refusal.proofs.Ladder.{exactly, accepted-exactly}
+
+none : (t : Bool) (n : ℕ) (rows : List Row) → noneOf ((t ⇒ n) ∷ rows) ≡ true ↔ ((t ≡ false) × (noneOf rows ≡ true))
+unfolding every
+none true n rows = ((λ e. absurd (false≢true e)), (λ h. absurd (true≢false (h .0))))
+none false n rows = ((λ e. (refl, e)), (λ h. h .1))
+
+module _ (inputBad divisorZero answerBad : Bool) where
+  abbrev number : ℕ
+  number = kernelNumber inputBad divisorZero answerBad
+
+  abbrev early : List Row
+  early = inputBad ⇒ badInput ∷ []
+
+  abbrev middle : List Row
+  middle = divisorZero ⇒ zeroDivisor ∷ []
+
+  abbrev late : List Row
+  late = answerBad ⇒ badAnswer ∷ []
+
+  pub refused-3 : number ≡ badInput ↔ inputBad ≡ true
+  unfolding kernelNumber every
+  refused-3 =
+      let e = exactly inputBad badInput (divisorZero ⇒ zeroDivisor ∷ late) [] refl refl (eqb-false badInput accepted refl) in
+      ((λ h. e .0 h .1), (λ h. e .1 (refl, h)))
+
+  pub refused-4 : number ≡ zeroDivisor ↔ ((inputBad ≡ false) × (divisorZero ≡ true))
+  unfolding kernelNumber every
+  refused-4 =
+      let e = exactly divisorZero zeroDivisor late early refl refl (eqb-false zeroDivisor accepted refl) in
+      let n = none inputBad badInput [] in
+      ((λ h. (n .0 (e .0 h .0) .0, e .0 h .1)), (λ h. e .1 (n .1 (h .0, refl), h .1)))
+
+  pub refused-5 : number ≡ badAnswer ↔ ((inputBad ≡ false) × (divisorZero ≡ false) × (answerBad ≡ true))
+  unfolding kernelNumber every
+  refused-5 =
+      let e = exactly answerBad badAnswer [] (inputBad ⇒ badInput ∷ middle) refl refl (eqb-false badAnswer accepted refl) in
+      let n = none inputBad badInput middle in
+      let m = none divisorZero zeroDivisor [] in
+      ((λ h. let p = n .0 (e .0 h .0) in (p .0, m .0 (p .1) .0, e .0 h .1)), (λ h. e .1 (n .1 (h .0, m .1 (h .1, refl)), h .2)))
+
+  pub refused-0 : number ≡ accepted ↔ ((inputBad ≡ false) × (divisorZero ≡ false) × (answerBad ≡ false))
+  unfolding kernelNumber every
+  refused-0 =
+      let e = accepted-exactly (inputBad ⇒ badInput ∷ divisorZero ⇒ zeroDivisor ∷ late) refl in
+      let n = none inputBad badInput (divisorZero ⇒ zeroDivisor ∷ late) in
+      let m = none divisorZero zeroDivisor late in
+      let l = none answerBad badAnswer [] in
+      ((λ h. let p = n .0 (e .0 h) in let q = m .0 (p .1) in (p .0, q .0, l .0 (q .1) .0)), (λ h. e .1 (n .1 (h .0, m .1 (h .1, l .1 (h .2, refl))))))

@@ -1,0 +1,12 @@
+-- `refusal::kernel` meets its contract: what its calls ensure, put in one after the other, is the ladder.
+use Rattle.refusal.specs.Refusal.{firstOf, kernelNumber}
+use Rattle.refusal.proofs.kernel.Statement.{statement}
+use Rattle.refusal.proofs.kernel.Tie as tie
+
+pub kernel-spec : {M : Type 1} → statement M
+unfolding kernelNumber firstOf
+kernel-spec = tie.close (tie.spec
+    (λ c κs. tt)
+    (λ c κs. tt)
+    (λ c κs. tt)
+    (λ c. rw (c .first3 .ensures, c .before .first2 .ensures, c .before .before .first .ensures)))
