@@ -25,7 +25,7 @@ fn v3(x: f64, y: f64, z: f64) -> V3 {
     V3 { x, y, z }
 }
 
-fn plane_area(x: [f64; 9]) -> f64 {
+fn plane_area(x: [f64; 24]) -> f64 {
     let p0 = V2 { x: x[0], y: x[1] };
     let p1 = V2 { x: x[2], y: x[3] };
     let p2 = V2 { x: x[4], y: x[5] };
@@ -45,7 +45,7 @@ fn put_inverse(a: V3, b: V3, c: V3) {
     output::put_v3(answer.gu2.v);
 }
 
-pub(crate) fn answer(helper: u64, x: [f64; 9]) {
+pub(crate) fn answer(helper: u64, x: [f64; 24]) {
     let a = v3(x[0], x[1], x[2]);
     let b = v3(x[3], x[4], x[5]);
     let c = v3(x[6], x[7], x[8]);

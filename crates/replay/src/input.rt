@@ -16,10 +16,10 @@ struct Number {
     x: f64,
 }
 
-// Numbers from the front of the array; not ok where the input ended before the last of them.
+// Numbers from the front of the array, +0 behind them; not ok where the input ended before the last of them.
 pub(crate) struct Numbers {
     pub ok: bool,
-    pub x: [f64; 9],
+    pub x: [f64; 24],
 }
 
 fn wide(b: u8) -> u64
@@ -59,11 +59,11 @@ fn next_number() -> Number {
     }
 }
 
-// The next count numbers, at most nine.
+// The next count numbers, at most 24.
 pub(crate) fn next_numbers(count: usize) -> Numbers {
-    let mut x = [0.0; 9];
+    let mut x = [0.0; 24];
     let mut ok = true;
-    for i in 0..9 {
+    for i in 0..24 {
         if i < count {
             let read = next_number();
             x[i] = read.x;

@@ -2,6 +2,7 @@
 // (docs/REPLAY.md). An end of the input between two records ends the run; any other is answered by the line `?` and the end.
 mod helpers;
 mod input;
+mod kernels;
 mod output;
 
 use input::Next;
@@ -48,6 +49,17 @@ fn replay_helper() -> Outcome {
     }
 }
 
+fn replay_kernel(kind: u64) -> Outcome {
+    let read = input::next_numbers(kernels::inputs(kind));
+    if read.ok {
+        let x = read.x;
+        kernels::answer(kind, x);
+        output::end_line();
+        return Outcome::Answered;
+    }
+    Outcome::Unreadable
+}
+
 fn replay_one() -> Outcome {
     match input::next_word() {
         Next::Word(kind) => {
@@ -55,6 +67,8 @@ fn replay_one() -> Outcome {
                 replay_root()
             } else if kind == HELPER {
                 replay_helper()
+            } else if kernels::is_known(kind) {
+                replay_kernel(kind)
             } else {
                 Outcome::Unreadable
             }

@@ -21,6 +21,12 @@ pub(crate) fn put_v3(v: V3) {
     put(v.z);
 }
 
+pub(crate) fn put_all(xs: &[f64]) {
+    for i in 0..xs.len() {
+        put(xs[i]);
+    }
+}
+
 pub(crate) fn end_line() {
     io::write_all(STDOUT_FILENO, b"\n");
 }

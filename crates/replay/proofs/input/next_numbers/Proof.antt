@@ -1,4 +1,4 @@
--- `next_numbers` is safe and ends: a turn writes below the ninth place.
+-- `next_numbers` is safe and ends: a turn writes below the last place.
 use Prim.Native.Nat.{_≤_, _-_}
 use native.Mathlib.Omega.{arith}
 use Rattle.replay.proofs.input.next_numbers.Statement.{statement}
@@ -6,8 +6,8 @@ use Rattle.replay.proofs.input.next_numbers.Tie as tie
 
 pub next-numbers-spec : {M : Type 1} → statement M
 next-numbers-spec = tie.close (tie.spec
-    (λ count x₀ ok₀ i₀ x ok i. i ≤ 9)
-    (λ count x₀ ok₀ i₀ x ok i. 9 - i)
+    (λ count x₀ ok₀ i₀ x ok i. i ≤ 24)
+    (λ count x₀ ok₀ i₀ x ok i. 24 - i)
     (λ c. omega arith)
     (λ c κs. tt)
     (λ c. omega arith)

@@ -1,0 +1,62 @@
+-- What `wdw` answers, in the scope's words: one answer fits, and each number is given exactly where its test holds and no earlier one does.
+use mathlib.Core.Path.{_≡_}
+use mathlib.Core.Bool.{true, false}
+use mathlib.Core.List.{List}
+use mathlib.Core.Logic.{_↔_}
+use lib.Ieee.{Float, Format}
+use lib.ListN.{replicate}
+use borrow.Author.Tests.{ne-eqb}
+use Rattle.float.specs.Ops.{Ops, ops}
+use Rattle.float.proofs.Unique.{only}
+use Rattle.refusal.specs.Refusal.{accepted, badInput, zeroDivisor, badAnswer}
+use Rattle.refusal.proofs.KernelNumber.{refused-0, refused-3, refused-4, refused-5}
+use Rattle.quadratic_bending.specs.declared.Fold.{Fold}
+use Rattle.quadratic_bending.specs.declared.Divisors.{Divisors}
+use Rattle.quadratic_bending.specs.declared.Bending.{Bending}
+use Rattle.quadratic_bending.specs.Bending.{cornersOf, badInputOf, zeroDivisorOf, badAnswerOf, divisorsOf, kOf, wOf, dwdpOf, bendingOf, wdwOf, IsBending}
+
+module _ (f : Format) (pIni pDef : List (List Float)) where
+  open Ops (ops f) using (zero)
+
+  -- no second answer fits
+  pub unique : {r q : Bending} → IsBending f pIni pDef r → IsBending f pIni pDef q → r ≡ q
+  unique = only
+
+  abbrev ini : Fold
+  ini = cornersOf pIni
+
+  abbrev def : Fold
+  def = cornersOf pDef
+
+  abbrev divisors : Divisors
+  divisors = divisorsOf f ini
+
+  abbrev w : List Float
+  w = wOf f (kOf f ini divisors) def
+
+  abbrev dwdp : List Float
+  dwdp = dwdpOf f (kOf f ini divisors)
+
+  pub refused-3-exactly : wdwOf f pIni pDef .number ≡ badInput ↔ badInputOf ini def ≡ true
+  unfolding wdwOf bendingOf
+  refused-3-exactly = refused-3 (badInputOf ini def) (zeroDivisorOf divisors) (badAnswerOf w dwdp)
+
+  pub refused-4-exactly : wdwOf f pIni pDef .number ≡ zeroDivisor ↔ ((badInputOf ini def ≡ false) × (zeroDivisorOf divisors ≡ true))
+  unfolding wdwOf bendingOf
+  refused-4-exactly = refused-4 (badInputOf ini def) (zeroDivisorOf divisors) (badAnswerOf w dwdp)
+
+  pub refused-5-exactly : wdwOf f pIni pDef .number ≡ badAnswer
+      ↔ ((badInputOf ini def ≡ false) × (zeroDivisorOf divisors ≡ false) × (badAnswerOf w dwdp ≡ true))
+  unfolding wdwOf bendingOf
+  refused-5-exactly = refused-5 (badInputOf ini def) (zeroDivisorOf divisors) (badAnswerOf w dwdp)
+
+  pub accepted-exactly : wdwOf f pIni pDef .number ≡ accepted
+      ↔ ((badInputOf ini def ≡ false) × (zeroDivisorOf divisors ≡ false) × (badAnswerOf w dwdp ≡ false))
+  unfolding wdwOf bendingOf
+  accepted-exactly = refused-0 (badInputOf ini def) (zeroDivisorOf divisors) (badAnswerOf w dwdp)
+
+  -- after a refusal every value is +0
+  pub refused-values : (wdwOf f pIni pDef .number ≡ accepted → ⊥)
+      → (wdwOf f pIni pDef .w ≡ replicate 3 zero) × (wdwOf f pIni pDef .dwdp ≡ replicate 36 zero)
+  unfolding wdwOf bendingOf
+  refused-values h = (rw (ne-eqb _ accepted h), rw (ne-eqb _ accepted h))

@@ -1,0 +1,100 @@
+-- What `wdw` of quadratic_bending.rs answers, under the source's names, over the format.
+use mathlib.Core.Path.{_≡_}
+use mathlib.Core.Bool.{Bool, cond, not, _&&_, _||_}
+use mathlib.Core.List.{List, [], _∷_}
+use Prim.Native.Nat.{ℕ}
+use lib.Dec.{eqb}
+use lib.Ieee.{Float, Format, neg}
+use lib.ListN.{replicate}
+use Rattle.float.specs.Ops.{Ops, ops}
+use Rattle.float.specs.Numbers.{isZero}
+use Rattle.float.specs.Lists.{_!_, _!!_, allFinite, table, each}
+use Rattle.root.specs.Root.{rootOf}
+use Rattle.del_geo_core.specs.Vec3 as vec3
+use Rattle.del_geo_core.specs.Vec3.{dotOf, subOf}
+use Rattle.del_geo_core.specs.Tri3.{areaOf}
+use Rattle.del_geo_core.specs.Edge.{lengthOf}
+use Rattle.refusal.specs.Refusal.{accepted, kernelNumber}
+use Rattle.quadratic_bending.specs.declared.Fold.{Fold}
+use Rattle.quadratic_bending.specs.declared.Divisors.{Divisors}
+use Rattle.quadratic_bending.specs.declared.Bending.{Bending}
+
+abbrev pub cornersOf : List (List Float) → Fold
+cornersOf p = record {
+  p0 = record { x = p !! 0 ! 0; y = p !! 0 ! 1; z = p !! 0 ! 2 };
+  p1 = record { x = p !! 1 ! 0; y = p !! 1 ! 1; z = p !! 1 ! 2 };
+  p2 = record { x = p !! 2 ! 0; y = p !! 2 ! 1; z = p !! 2 ! 2 };
+  p3 = record { x = p !! 3 ! 0; y = p !! 3 ! 1; z = p !! 3 ! 2 };
+}
+
+unfoldable pub isFiniteOf : Fold → Bool
+isFiniteOf p = vec3.isFiniteOf (p .p0) && vec3.isFiniteOf (p .p1) && vec3.isFiniteOf (p .p2) && vec3.isFiniteOf (p .p3)
+
+-- what is refused (01-scope 2.1): 3, a number of the corners is not finite
+abbrev pub badInputOf : (ini def : Fold) → Bool
+badInputOf ini def = not (isFiniteOf ini && isFiniteOf def)
+
+-- 4, one of the divisors of 01-scope 5.6 is zero
+unfoldable pub zeroDivisorOf : Divisors → Bool
+zeroDivisorOf d = isZero (d .len) || isZero (d .h0) || isZero (d .h1) || isZero (d .«root_len»)
+
+-- 5, a number of the answer is not finite
+abbrev pub badAnswerOf : (w dwdp : List Float) → Bool
+badAnswerOf w dwdp = not (allFinite w && allFinite dwdp)
+
+module _ (f : Format) where
+  open Ops (ops f) using (_⊕_, _⊖_, _⊗_, _⊘_, zero, two, three)
+
+  infixl 75 _⊕_ _⊖_
+  infixl 80 _⊗_ _⊘_
+  -- len, h0, h1, and root(area0 + area1) * len
+  unfoldable pub divisorsOf : Fold → Divisors
+  divisorsOf p =
+      let area0 = areaOf f (p .p0) (p .p2) (p .p3) in
+      let area1 = areaOf f (p .p1) (p .p3) (p .p2) in
+      let len = lengthOf f (p .p2) (p .p3) in
+      record { len = len; h0 = two ⊗ area0 ⊘ len; h1 = two ⊗ area1 ⊘ len; «root_len» = rootOf f (area0 ⊕ area1) ⊗ len }
+
+  unfoldable pub kOf : Fold → Divisors → List Float
+  kOf p d =
+      let e23 = subOf f (p .p3) (p .p2) in
+      let e02 = subOf f (p .p2) (p .p0) in
+      let e03 = subOf f (p .p3) (p .p0) in
+      let e12 = subOf f (p .p2) (p .p1) in
+      let e13 = subOf f (p .p3) (p .p1) in
+      let cot023 = neg (dotOf f e02 e23) ⊘ d .h0 in
+      let cot032 = dotOf f e03 e23 ⊘ d .h0 in
+      let cot123 = neg (dotOf f e12 e23) ⊘ d .h1 in
+      let cot132 = dotOf f e13 e23 ⊘ d .h1 in
+      let tmp0 = rootOf f three ⊘ d .«root_len» in
+      (neg cot023 ⊖ cot032) ⊗ tmp0 ∷ (neg cot123 ⊖ cot132) ⊗ tmp0 ∷ (cot032 ⊕ cot132) ⊗ tmp0 ∷ (cot023 ⊕ cot123) ⊗ tmp0 ∷ []
+
+  unfoldable pub wOf : (k : List Float) (p : Fold) → List Float
+  wOf k p =
+      (k ! 0 ⊗ p .p0 .x ⊕ k ! 1 ⊗ p .p1 .x ⊕ k ! 2 ⊗ p .p2 .x ⊕ k ! 3 ⊗ p .p3 .x)
+      ∷ (k ! 0 ⊗ p .p0 .y ⊕ k ! 1 ⊗ p .p1 .y ⊕ k ! 2 ⊗ p .p2 .y ⊕ k ! 3 ⊗ p .p3 .y)
+      ∷ (k ! 0 ⊗ p .p0 .z ⊕ k ! 1 ⊗ p .p1 .z ⊕ k ! 2 ⊗ p .p2 .z ⊕ k ! 3 ⊗ p .p3 .z)
+      ∷ []
+
+  -- dwdp[i_dim][node][dim]: k[node] where dim is i_dim, else +0
+  unfoldable pub dwdpOf : (k : List Float) → List Float
+  dwdpOf k = each 3 (λ iDim. each 4 (λ node. table 3 (λ dim. cond (eqb dim iDim) (k ! node) zero)))
+
+  unfoldable pub bendingOf : (number : ℕ) (w dwdp : List Float) → Bending
+  bendingOf number w dwdp =
+      let keep = eqb number accepted in
+      record { number = number; w = cond keep w (replicate 3 zero); dwdp = cond keep dwdp (replicate 36 zero) }
+
+  unfoldable pub wdwOf : (pIni pDef : List (List Float)) → Bending
+  wdwOf pIni pDef =
+      let ini = cornersOf pIni in
+      let def = cornersOf pDef in
+      let d = divisorsOf ini in
+      let k = kOf ini d in
+      let w = wOf k def in
+      let dwdp = dwdpOf k in
+      bendingOf (kernelNumber (badInputOf ini def) (zeroDivisorOf d) (badAnswerOf w dwdp)) w dwdp
+
+  -- THE statement of `wdw`
+  abbrev pub IsBending : (pIni pDef : List (List Float)) (r : Bending) → Type 0
+  IsBending pIni pDef r = r ≡ wdwOf pIni pDef
