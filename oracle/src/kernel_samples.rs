@@ -27,6 +27,11 @@ pub fn sample(kind: u64) -> Vec<Record> {
     records
 }
 
+/// The input of the original file's own test, its first where it has several.
+pub fn original(kind: u64) -> Vec<f64> {
+    chosen(kind).swap_remove(0)
+}
+
 fn chosen(kind: u64) -> Vec<Vec<f64>> {
     match kind {
         BENDING => bending(),

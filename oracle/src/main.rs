@@ -28,6 +28,7 @@ const USAGE: &str = "usage:
   oracle generate KINDS COUNT SEED    COUNT fresh records of each kind
   oracle answer                       records in, answer lines out
   oracle compare EXPECTED ACTUAL      two files of answer lines
+  oracle runs KINDS COUNT             runs of COUNT calls for `speed`, on the original files' own test inputs; roots from 2 on
 KINDS is a list such as 1,9 or the word all.";
 
 fn main() -> ExitCode {
@@ -61,6 +62,14 @@ fn run(arguments: &[&str]) -> Result<ExitCode, String> {
             )
         }
         ["answer"] => answer_lines(),
+        ["runs", kinds, count] => {
+            let count = parsed(count)?;
+            let kinds = parsed_kinds(kinds)?;
+            write_records(
+                kinds.into_iter().map(|kind| run_of(kind, count)).collect(),
+                &[],
+            )
+        }
         ["compare", expected, actual] => compare_files(expected, actual),
         _ => Err(USAGE.to_string()),
     }
@@ -98,6 +107,17 @@ fn generated(kind: u64, random: &mut Random) -> Record {
         record::MASSES => mass_cases::generated(random),
         kernel => kernel_cases::generated(kernel, random),
     }
+}
+
+/// The routine's number, how many calls, and 24 numbers, the inputs first.
+fn run_of(kind: u64, count: u64) -> Record {
+    let mut inputs = match kind {
+        record::ROOT => vec![2.0],
+        kernel => kernel_samples::original(kernel),
+    };
+    inputs.resize(24, 0.0);
+    let words = [vec![count], record::words_of(&inputs)].concat();
+    Record { kind, words }
 }
 
 /// The sample's end: a root without its last byte, which is answered by `?`.

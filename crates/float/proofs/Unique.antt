@@ -5,7 +5,7 @@ use mathlib.Core.List.{List}
 use Prim.Native.Nat.{ℕ}
 use lib.Ieee.{Float, Format, ofBits, toBits}
 use lib.Ieee.Scale.{finite}
-use Rattle.float.specs.Numbers.{isZero}
+use Rattle.float.specs.Numbers.{isZero, bigEndian}
 use Rattle.float.specs.Lists.{allFinite}
 
 -- the general law: every statement of the form r ≡ fOf .. is an instance
@@ -20,6 +20,9 @@ is-zero x = only
 
 pub all-finite : (xs : List Float) {r q : Bool} → r ≡ allFinite xs → q ≡ allFinite xs → r ≡ q
 all-finite xs = only
+
+pub of-bytes : (bytes : List ℕ) {r q : ℕ} → r ≡ bigEndian bytes → q ≡ bigEndian bytes → r ≡ q
+of-bytes bytes = only
 
 pub of-word : (f : Format) (w : ℕ) {r q : Float} → r ≡ ofBits f w → q ≡ ofBits f w → r ≡ q
 of-word f w = only

@@ -2,7 +2,9 @@
 ghost use mathlib.Core.Path.{_≡_};
 ghost use lib.Ieee.{binary64, ofBits, toBits};
 ghost use lib.Ieee.Scale.{finite};
-ghost use Rattle.float.specs.Numbers.{isZero};
+ghost use Prim.Native.Nat.{_<_, _^_};
+ghost use mathlib.Core.List.{[], _∷_};
+ghost use Rattle.float.specs.Numbers.{isZero, bigEndian};
 ghost use Rattle.float.specs.Lists.{allFinite};
 
 // The bits of the one NaN (01-scope 4.2).
@@ -32,6 +34,25 @@ pub fn all_finite(xs: &[f64]) -> bool
         ok = ok & is_finite(xs[i]);
     }
     ok
+}
+
+fn wide(b: u8) -> u64
+    ensures { λ r. ⌜ (r ≡ b) × (r < 256) ⌝ }
+{
+    b as u64
+}
+
+fn four_bytes(a: u8, b: u8, c: u8, d: u8) -> u64
+    ensures { λ r. ⌜ (r ≡ bigEndian (a ∷ b ∷ c ∷ d ∷ [])) × (r < 2 ^ 32) ⌝ }
+{
+    ((wide(a) * 256 + wide(b)) * 256 + wide(c)) * 256 + wide(d)
+}
+
+// The pattern whose bytes these are, the highest first.
+pub fn of_bytes(b0: u8, b1: u8, b2: u8, b3: u8, b4: u8, b5: u8, b6: u8, b7: u8) -> u64
+    ensures { λ r. ⌜ r ≡ bigEndian (b0 ∷ b1 ∷ b2 ∷ b3 ∷ b4 ∷ b5 ∷ b6 ∷ b7 ∷ []) ⌝ }
+{
+    four_bytes(b0, b1, b2, b3) * 0x1_0000_0000 + four_bytes(b4, b5, b6, b7)
 }
 
 // The number that a pattern of 64 bits stands for; every NaN's pattern is the one NaN.

@@ -1,4 +1,4 @@
--- What `wdw` answers, in the scope's words: one answer fits, and each number is given exactly where its test holds and no earlier one does.
+-- What `wdw` answers, in the scope's words: one answer fits, and each number is given exactly where its test holds and that of no smaller one does.
 use mathlib.Core.Path.{_≡_}
 use mathlib.Core.Bool.{true, false}
 use mathlib.Core.List.{List}
@@ -13,20 +13,14 @@ use Rattle.refusal.proofs.KernelNumber.{refused-0, refused-3, refused-4, refuse
 use Rattle.quadratic_bending.specs.declared.Fold.{Fold}
 use Rattle.quadratic_bending.specs.declared.Divisors.{Divisors}
 use Rattle.quadratic_bending.specs.declared.Bending.{Bending}
-use Rattle.quadratic_bending.specs.Bending.{cornersOf, badInputOf, zeroDivisorOf, badAnswerOf, divisorsOf, kOf, wOf, dwdpOf, bendingOf, wdwOf, IsBending}
+use Rattle.quadratic_bending.specs.Bending.{badInputOf, zeroDivisorOf, badAnswerOf, divisorsOf, kOf, wOf, dwdpOf, bendingOf, wdwOf, IsBending}
 
-module _ (f : Format) (pIni pDef : List (List Float)) where
+-- no second answer fits
+pub unique : (f : Format) (pIni pDef : List (List Float)) {r q : Bending} → IsBending f pIni pDef r → IsBending f pIni pDef q → r ≡ q
+unique f pIni pDef = only
+
+module _ (f : Format) (ini def : Fold) where
   open Ops (ops f) using (zero)
-
-  -- no second answer fits
-  pub unique : {r q : Bending} → IsBending f pIni pDef r → IsBending f pIni pDef q → r ≡ q
-  unique = only
-
-  abbrev ini : Fold
-  ini = cornersOf pIni
-
-  abbrev def : Fold
-  def = cornersOf pDef
 
   abbrev divisors : Divisors
   divisors = divisorsOf f ini
@@ -37,26 +31,25 @@ module _ (f : Format) (pIni pDef : List (List Float)) where
   abbrev dwdp : List Float
   dwdp = dwdpOf f (kOf f ini divisors)
 
-  pub refused-3-exactly : wdwOf f pIni pDef .number ≡ badInput ↔ badInputOf ini def ≡ true
+  pub refused-3-exactly : wdwOf f ini def .number ≡ badInput ↔ badInputOf ini def ≡ true
   unfolding wdwOf bendingOf
-  refused-3-exactly = refused-3 (badInputOf ini def) (zeroDivisorOf divisors) (badAnswerOf w dwdp)
+  refused-3-exactly = refused-3 _ _ _
 
-  pub refused-4-exactly : wdwOf f pIni pDef .number ≡ zeroDivisor ↔ ((badInputOf ini def ≡ false) × (zeroDivisorOf divisors ≡ true))
+  pub refused-4-exactly : wdwOf f ini def .number ≡ zeroDivisor ↔ ((badInputOf ini def ≡ false) × (zeroDivisorOf divisors ≡ true))
   unfolding wdwOf bendingOf
-  refused-4-exactly = refused-4 (badInputOf ini def) (zeroDivisorOf divisors) (badAnswerOf w dwdp)
+  refused-4-exactly = refused-4 _ _ _
 
-  pub refused-5-exactly : wdwOf f pIni pDef .number ≡ badAnswer
+  pub refused-5-exactly : wdwOf f ini def .number ≡ badAnswer
       ↔ ((badInputOf ini def ≡ false) × (zeroDivisorOf divisors ≡ false) × (badAnswerOf w dwdp ≡ true))
   unfolding wdwOf bendingOf
-  refused-5-exactly = refused-5 (badInputOf ini def) (zeroDivisorOf divisors) (badAnswerOf w dwdp)
+  refused-5-exactly = refused-5 _ _ _
 
-  pub accepted-exactly : wdwOf f pIni pDef .number ≡ accepted
+  pub accepted-exactly : wdwOf f ini def .number ≡ accepted
       ↔ ((badInputOf ini def ≡ false) × (zeroDivisorOf divisors ≡ false) × (badAnswerOf w dwdp ≡ false))
   unfolding wdwOf bendingOf
-  accepted-exactly = refused-0 (badInputOf ini def) (zeroDivisorOf divisors) (badAnswerOf w dwdp)
+  accepted-exactly = refused-0 _ _ _
 
   -- after a refusal every value is +0
-  pub refused-values : (wdwOf f pIni pDef .number ≡ accepted → ⊥)
-      → (wdwOf f pIni pDef .w ≡ replicate 3 zero) × (wdwOf f pIni pDef .dwdp ≡ replicate 36 zero)
+  pub refused-values : (wdwOf f ini def .number ≡ accepted → ⊥) → (wdwOf f ini def .w ≡ replicate 3 zero) × (wdwOf f ini def .dwdp ≡ replicate 36 zero)
   unfolding wdwOf bendingOf
   refused-values h = (rw (ne-eqb _ accepted h), rw (ne-eqb _ accepted h))

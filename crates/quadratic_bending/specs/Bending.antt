@@ -85,10 +85,8 @@ module _ (f : Format) where
       let keep = eqb number accepted in
       record { number = number; w = cond keep w (replicate 3 zero); dwdp = cond keep dwdp (replicate 36 zero) }
 
-  unfoldable pub wdwOf : (pIni pDef : List (List Float)) → Bending
-  wdwOf pIni pDef =
-      let ini = cornersOf pIni in
-      let def = cornersOf pDef in
+  unfoldable pub wdwOf : (ini def : Fold) → Bending
+  wdwOf ini def =
       let d = divisorsOf ini in
       let k = kOf ini d in
       let w = wOf k def in
@@ -97,4 +95,4 @@ module _ (f : Format) where
 
   -- THE statement of `wdw`
   abbrev pub IsBending : (pIni pDef : List (List Float)) (r : Bending) → Type 0
-  IsBending pIni pDef r = r ≡ wdwOf pIni pDef
+  IsBending pIni pDef r = r ≡ wdwOf (cornersOf pIni) (cornersOf pDef)

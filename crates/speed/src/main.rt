@@ -1,0 +1,88 @@
+// Calls a routine many times, so that the instructions of one call can be counted (docs/SPEED.md). Standard input holds runs of big-endian 64-bit words: the routine's
+// number of docs/REPLAY.md, how many calls, and 24 numbers by their bits, its inputs first. A line for each run: the bits of the sum of what the calls gave.
+use libc::STDIN_FILENO;
+use libc::STDOUT_FILENO;
+
+// 0 where the input has ended.
+fn next_word() -> u64 {
+    let mut b = [0u8; 8];
+    if io::read_full(STDIN_FILENO, &mut b) < 8 {
+        return 0;
+    }
+    float::of_bytes(b[0], b[1], b[2], b[3], b[4], b[5], b[6], b[7])
+}
+
+fn next_numbers() -> [f64; 24] {
+    let mut x = [0.0; 24];
+    for i in 0..24 {
+        x[i] = float::of_word(next_word());
+    }
+    x
+}
+
+// By how much a call moves one rest coordinate and one deformed one from where the call before had them, so that no call is like another: 2^-20.
+const STEP: f64 = 0.00000095367431640625;
+
+fn root(x: [f64; 24], s: f64) -> f64 {
+    root::sqrt(x[0] + s)
+}
+
+// Call k moves by s. Values at changing places are taken, so that none can be left out.
+fn bending(x: [f64; 24], s: f64, k: u64) -> f64 {
+    let p_ini = [
+        [x[0] + s, x[1], x[2]],
+        [x[3], x[4], x[5]],
+        [x[6], x[7], x[8]],
+        [x[9], x[10], x[11]],
+    ];
+    let p_def = [
+        [x[12] + s, x[13], x[14]],
+        [x[15], x[16], x[17]],
+        [x[18], x[19], x[20]],
+        [x[21], x[22], x[23]],
+    ];
+    let answer = quadratic_bending::wdw(p_ini, p_def);
+    let w = answer.w;
+    let dwdp = answer.dwdp;
+    let at = (k % 36) as usize;
+    w[at % 3] + dwdp[at]
+}
+
+fn call(kind: u64, x: [f64; 24], s: f64, k: u64) -> f64 {
+    match kind {
+        1 => root(x, s),
+        2 => bending(x, s, k),
+        _ => 0.0,
+    }
+}
+
+fn sum(kind: u64, count: u64, x: [f64; 24]) -> f64 {
+    let mut s = 0.0;
+    let mut sum = 0.0;
+    for k in 0..count {
+        sum = sum + call(kind, x, s, k);
+        s = s + STEP;
+    }
+    sum
+}
+
+// Whether there was a run to make.
+fn run() -> bool {
+    let kind = next_word();
+    if kind == 0 {
+        return false;
+    }
+    let count = next_word();
+    let x = next_numbers();
+    io::print_hex(STDOUT_FILENO, float::to_word(sum(kind, count, x)), 16);
+    io::write_all(STDOUT_FILENO, b"\n");
+    true
+}
+
+// A proved loop ends, and nothing says that the input does: so the runs are counted down, from a number that no input uses up.
+fn main() {
+    let mut left = u64::MAX;
+    while left > 0 && run() {
+        left -= 1;
+    }
+}
