@@ -1,5 +1,4 @@
 // Words and numbers from standard input.
-ghost use Prim.Native.Nat.{_<_, _^_};
 use libc::STDIN_FILENO;
 
 pub(crate) enum Next {
@@ -22,18 +21,6 @@ pub(crate) struct Numbers {
     pub x: [f64; 24],
 }
 
-fn wide(b: u8) -> u64
-    ensures { λ r. ⌜ r < 256 ⌝ }
-{
-    b as u64
-}
-
-fn four_bytes(a: u8, b: u8, c: u8, d: u8) -> u64
-    ensures { λ r. ⌜ r < 2 ^ 32 ⌝ }
-{
-    ((wide(a) * 256 + wide(b)) * 256 + wide(c)) * 256 + wide(d)
-}
-
 pub(crate) fn next_word() -> Next {
     let mut b = [0u8; 8];
     let n = io::read_full(STDIN_FILENO, &mut b);
@@ -43,9 +30,7 @@ pub(crate) fn next_word() -> Next {
     if n < 8 {
         return Next::Cut;
     }
-    Next::Word(
-        four_bytes(b[0], b[1], b[2], b[3]) * 0x1_0000_0000 + four_bytes(b[4], b[5], b[6], b[7]),
-    )
+    Next::Word(float::of_bytes(b[0], b[1], b[2], b[3], b[4], b[5], b[6], b[7]))
 }
 
 fn next_number() -> Number {

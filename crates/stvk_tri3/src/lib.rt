@@ -1,0 +1,63 @@
+// Ported from stvk_tri3.rs: the strain of a triangle, and its StVK energy. An index 0, 1, 2 of the source is x, y, z here.
+ghost use mathlib.Core.Path.{_≡_};
+ghost use lib.Ieee.{binary64};
+ghost use Rattle.stvk_tri3.specs.Edges.{edgesOf, glstrainOf};
+ghost use Rattle.stvk_tri3.specs.Strain.{IsStrain};
+
+mod strains;
+
+use del_geo_core::tri2;
+use del_geo_core::tri3;
+use del_geo_core::tri3::Tri3;
+use del_geo_core::vec3;
+use del_geo_core::vec3::V3;
+
+// Three strains and their derivatives: dw[k][ino][idim] of the source stands at (k * 3 + ino) * 3 + idim.
+pub struct Strain {
+    pub number: u32,
+    pub w: [f64; 3],
+    pub dw: [f64; 27],
+}
+
+// Two covariant vectors: the edges from corner 0 to corners 1 and 2.
+pub(crate) struct Gd {
+    pub x: V3,
+    pub y: V3,
+}
+
+pub(crate) fn edges(p: Tri3) -> Gd
+    ensures { λ r. ⌜ r ≡ edgesOf binary64 p ⌝ }
+{
+    let x = vec3::sub(p.p1, p.p0);
+    let y = vec3::sub(p.p2, p.p0);
+    Gd { x, y }
+}
+
+// The Green-Lagrange strain along the edges, in the engineer's notation, from the rest edges and the deformed ones.
+pub(crate) fn glstrain(gd0: Gd, gd: Gd) -> V3
+    ensures { λ r. ⌜ r ≡ glstrainOf binary64 gd0 gd ⌝ }
+{
+    V3 {
+        x: 0.5 * (vec3::dot(gd.x, gd.x) - vec3::dot(gd0.x, gd0.x)),
+        y: 0.5 * (vec3::dot(gd.y, gd.y) - vec3::dot(gd0.y, gd0.y)),
+        z: vec3::dot(gd.x, gd.y) - vec3::dot(gd0.x, gd0.y),
+    }
+}
+
+// The strains of a plane rest triangle that is deformed into space, and their derivatives by the deformed corners.
+pub fn wdw(p_ini: [[f64; 2]; 3], p_def: [[f64; 3]; 3]) -> Strain
+    ensures { λ r. ⌜ IsStrain binary64 «p_ini» «p_def» r ⌝ }
+{
+    let ini = tri2::corners(p_ini);
+    let def = tri3::corners(p_def);
+    let rest = strains::rest_of(ini);
+    let values = strains::values_of(rest.gd0, edges(def), rest.gu0_x.v, rest.gu0_y.v);
+    let w = values.w;
+    let dw = values.dw;
+    let number = refusal::kernel(
+        strains::bad_input(ini, def),
+        strains::zero_divisor(rest),
+        strains::bad_answer(w, dw),
+    );
+    strains::answer(number, w, dw)
+}
