@@ -3,16 +3,17 @@ use crate::output;
 
 const BENDING: u64 = 2;
 
-const STRAIN: u64 = 3;
+const STVK: u64 = 4;
 
 pub(crate) fn is_known(kind: u64) -> bool {
-    (BENDING <= kind) & (kind <= STRAIN)
+    (BENDING <= kind) & (kind <= STVK)
 }
 
 pub(crate) fn inputs(kind: u64) -> usize {
     match kind {
         2 => 24,
-        _ => 15,
+        3 => 15,
+        _ => 20,
     }
 }
 
@@ -48,9 +49,24 @@ fn put_strain(x: [f64; 24]) {
     output::put_all(&answer.dw);
 }
 
+fn put_stvk(x: [f64; 24]) {
+    let p0 = [[x[0], x[1], x[2]], [x[3], x[4], x[5]], [x[6], x[7], x[8]]];
+    let p1 = [
+        [x[9], x[10], x[11]],
+        [x[12], x[13], x[14]],
+        [x[15], x[16], x[17]],
+    ];
+    let answer = stvk_tri3::wdwddw_(p0, p1, x[18], x[19]);
+    output::start_line(answer.number as u64);
+    output::put(answer.w);
+    output::put_all(&answer.dw);
+    output::put_all(&answer.ddw);
+}
+
 pub(crate) fn answer(kind: u64, x: [f64; 24]) {
     match kind {
         2 => put_bending(x),
-        _ => put_strain(x),
+        3 => put_strain(x),
+        _ => put_stvk(x),
     }
 }

@@ -48,10 +48,44 @@ fn bending(x: [f64; 24], s: f64, k: u64) -> f64 {
     w[at % 3] + dwdp[at]
 }
 
+fn strain(x: [f64; 24], s: f64, k: u64) -> f64 {
+    let p_ini = [[x[0] + s, x[1]], [x[2], x[3]], [x[4], x[5]]];
+    let p_def = [
+        [x[6] + s, x[7], x[8]],
+        [x[9], x[10], x[11]],
+        [x[12], x[13], x[14]],
+    ];
+    let answer = stvk_tri3::wdw(p_ini, p_def);
+    let w = answer.w;
+    let dw = answer.dw;
+    let at = (k % 27) as usize;
+    w[at % 3] + dw[at]
+}
+
+fn stvk(x: [f64; 24], s: f64, k: u64) -> f64 {
+    let p0 = [
+        [x[0] + s, x[1], x[2]],
+        [x[3], x[4], x[5]],
+        [x[6], x[7], x[8]],
+    ];
+    let p1 = [
+        [x[9] + s, x[10], x[11]],
+        [x[12], x[13], x[14]],
+        [x[15], x[16], x[17]],
+    ];
+    let answer = stvk_tri3::wdwddw_(p0, p1, x[18], x[19]);
+    let dw = answer.dw;
+    let ddw = answer.ddw;
+    let at = (k % 81) as usize;
+    answer.w + dw[at % 9] + ddw[at]
+}
+
 fn call(kind: u64, x: [f64; 24], s: f64, k: u64) -> f64 {
     match kind {
         1 => root(x, s),
         2 => bending(x, s, k),
+        3 => strain(x, s, k),
+        4 => stvk(x, s, k),
         _ => 0.0,
     }
 }

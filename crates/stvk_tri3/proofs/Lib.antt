@@ -1,1 +1,2 @@
 pub mod StrainAnswer
+pub mod EnergyAnswer

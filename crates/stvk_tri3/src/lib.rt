@@ -3,7 +3,9 @@ ghost use mathlib.Core.Path.{_≡_};
 ghost use lib.Ieee.{binary64};
 ghost use Rattle.stvk_tri3.specs.Edges.{edgesOf, glstrainOf};
 ghost use Rattle.stvk_tri3.specs.Strain.{IsStrain};
+ghost use Rattle.stvk_tri3.specs.Stvk.{IsEnergy};
 
+mod energy;
 mod strains;
 
 use del_geo_core::tri2;
@@ -11,6 +13,7 @@ use del_geo_core::tri3;
 use del_geo_core::tri3::Tri3;
 use del_geo_core::vec3;
 use del_geo_core::vec3::V3;
+use refusal::Energy;
 
 // Three strains and their derivatives: dw[k][ino][idim] of the source stands at (k * 3 + ino) * 3 + idim.
 pub struct Strain {
@@ -60,4 +63,21 @@ pub fn wdw(p_ini: [[f64; 2]; 3], p_def: [[f64; 3]; 3]) -> Strain
         strains::bad_answer(w, dw),
     );
     strains::answer(number, w, dw)
+}
+
+// The StVK energy of a sheet that has the corners p0 at rest and p1 deformed, with its gradient and Hessian by p1. No thickness enters.
+pub fn wdwddw_(p0: [[f64; 3]; 3], p1: [[f64; 3]; 3], lambda: f64, myu: f64) -> Energy
+    ensures { λ r. ⌜ IsEnergy binary64 p0 p1 lambda myu r ⌝ }
+{
+    let p0 = tri3::corners(p0);
+    let p1 = tri3::corners(p1);
+    let s = energy::state_of(p0, p1, lambda, myu);
+    let w = energy::w(s);
+    let dw = energy::dw(s);
+    let ddw = energy::ddw(s);
+    let bad_input = energy::bad_input(p0, p1, lambda, myu);
+    let zero_divisor = energy::zero_divisor(s.rest);
+    let bad_answer = energy::bad_answer(w, dw, ddw);
+    let number = refusal::kernel(bad_input, zero_divisor, bad_answer);
+    refusal::answer_energy(number, w, dw, ddw)
 }

@@ -1,0 +1,325 @@
+// The parts of `wdwddw_`: a triangle's StVK energy, its gradient and its Hessian. An index 0, 1, 2 of the source is x, y, z here.
+ghost use mathlib.Core.Path.{_≡_};
+ghost use mathlib.Core.List.{_++_};
+ghost use lib.Ieee.{binary64};
+ghost use Rattle.float.specs.Lists.{each};
+ghost use Rattle.stvk_tri3.specs.Stvk.{restOf, glstrainOf, gugu0Of, elasticityTensorOf, spkstressOf, stateOf, wOf, dNdrOf, alongOf, dwAtOf, dwOf};
+ghost use Rattle.stvk_tri3.specs.Stvk.{dtmp0Of, dtmp1Of, rowOf, rowsOf, blockOf, ddwAtOf, ddwOf, badInputOf, zeroDivisorOf, badAnswerOf};
+use crate::Gd;
+use crate::edges;
+use del_geo_core::curve_linear_coords;
+use del_geo_core::tri2::V2;
+use del_geo_core::tri3;
+use del_geo_core::tri3::Tri3;
+use del_geo_core::vec3;
+use del_geo_core::vec3::Divided;
+use del_geo_core::vec3::V3;
+
+// Of the rest corners: gd0[0] and gd0[1]; gd0[2], gu0[0] and gu0[1], each with what divided it; area0.
+pub(crate) struct Rest {
+    pub gd0: Gd,
+    pub gdz: Divided,
+    pub area0: f64,
+    pub gu0x: Divided,
+    pub gu0y: Divided,
+}
+
+// Three rows of three: elasticity_tensor[0][1] is x.y.
+pub(crate) struct Tensor {
+    pub x: V3,
+    pub y: V3,
+    pub z: V3,
+}
+
+// What the energy and its derivatives are made of.
+pub(crate) struct State {
+    pub rest: Rest,
+    pub gd: Gd,
+    pub glstrain: V3,
+    pub tensor: Tensor,
+    pub spkstress: V3,
+}
+
+fn rest_of(p0: Tri3) -> Rest
+    ensures { λ r. ⌜ r ≡ restOf binary64 p0 ⌝ }
+{
+    let normal_area = tri3::unit_normal_area(p0.p0, p0.p1, p0.p2);
+    let gdz = normal_area.normal;
+    let gd0 = edges(p0);
+    let gu0x = curve_linear_coords::contravariant(gd0.x, gd0.y, gdz.v);
+    let gu0y = curve_linear_coords::contravariant(gd0.y, gdz.v, gd0.x);
+    Rest {
+        gd0,
+        gdz,
+        area0: normal_area.area,
+        gu0x,
+        gu0y,
+    }
+}
+
+// The strain along the edges, its third component times one.
+fn glstrain(gd0: Gd, gd: Gd) -> V3
+    ensures { λ r. ⌜ r ≡ glstrainOf binary64 gd0 gd ⌝ }
+{
+    let e = crate::glstrain(gd0, gd);
+    V3 {
+        x: e.x,
+        y: e.y,
+        z: 1.0 * e.z,
+    }
+}
+
+fn gugu0(gu0x: V3, gu0y: V3) -> V3
+    ensures { λ r. ⌜ r ≡ gugu0Of binary64 gu0x gu0y ⌝ }
+{
+    V3 {
+        x: vec3::dot(gu0x, gu0x),
+        y: vec3::dot(gu0y, gu0y),
+        z: vec3::dot(gu0y, gu0x),
+    }
+}
+
+fn elasticity_tensor(gugu0: V3, lambda: f64, myu: f64) -> Tensor
+    ensures { λ r. ⌜ r ≡ elasticityTensorOf binary64 gugu0 lambda myu ⌝ }
+{
+    let x = V3 {
+        x: lambda * gugu0.x * gugu0.x + 2.0 * myu * (gugu0.x * gugu0.x),
+        y: lambda * gugu0.x * gugu0.y + 2.0 * myu * (gugu0.z * gugu0.z),
+        z: lambda * gugu0.x * gugu0.z + 2.0 * myu * (gugu0.x * gugu0.z),
+    };
+    let y = V3 {
+        x: lambda * gugu0.y * gugu0.x + 2.0 * myu * (gugu0.z * gugu0.z),
+        y: lambda * gugu0.y * gugu0.y + 2.0 * myu * (gugu0.y * gugu0.y),
+        z: lambda * gugu0.y * gugu0.z + 2.0 * myu * (gugu0.z * gugu0.y),
+    };
+    let z = V3 {
+        x: lambda * gugu0.z * gugu0.x + 2.0 * myu * (gugu0.x * gugu0.z),
+        y: lambda * gugu0.z * gugu0.y + 2.0 * myu * (gugu0.z * gugu0.y),
+        z: lambda * gugu0.z * gugu0.z + 1.0 * myu * (gugu0.x * gugu0.y + gugu0.z * gugu0.z),
+    };
+    Tensor { x, y, z }
+}
+
+fn spkstress(e: Tensor, glstrain: V3) -> V3
+    ensures { λ r. ⌜ r ≡ spkstressOf binary64 e glstrain ⌝ }
+{
+    V3 {
+        x: vec3::dot(e.x, glstrain),
+        y: vec3::dot(e.y, glstrain),
+        z: vec3::dot(e.z, glstrain),
+    }
+}
+
+pub(crate) fn state_of(p0: Tri3, p1: Tri3, lambda: f64, myu: f64) -> State
+    ensures { λ r. ⌜ r ≡ stateOf binary64 p0 p1 lambda myu ⌝ }
+{
+    let rest = rest_of(p0);
+    let gd = edges(p1);
+    let glstrain = glstrain(rest.gd0, gd);
+    let tensor = elasticity_tensor(gugu0(rest.gu0x.v, rest.gu0y.v), lambda, myu);
+    let spkstress = spkstress(tensor, glstrain);
+    State {
+        rest,
+        gd,
+        glstrain,
+        tensor,
+        spkstress,
+    }
+}
+
+pub(crate) fn w(s: State) -> f64
+    ensures { λ r. ⌜ r ≡ wOf binary64 s ⌝ }
+{
+    0.5 * s.rest.area0 * vec3::dot(s.glstrain, s.spkstress)
+}
+
+// dNdr[ino]
+fn dndr(ino: usize) -> V2
+    ensures { λ r. ⌜ r ≡ dNdrOf binary64 ino ⌝ }
+{
+    match ino {
+        0 => V2 { x: -1.0, y: -1.0 },
+        1 => V2 { x: 1.0, y: 0.0 },
+        _ => V2 { x: 0.0, y: 1.0 },
+    }
+}
+
+// gd[0][idim] and gd[1][idim]
+fn along(gd: Gd, idim: usize) -> V2
+    ensures { λ r. ⌜ r ≡ alongOf gd idim ⌝ }
+{
+    match idim {
+        0 => V2 {
+            x: gd.x.x,
+            y: gd.y.x,
+        },
+        1 => V2 {
+            x: gd.x.y,
+            y: gd.y.y,
+        },
+        _ => V2 {
+            x: gd.x.z,
+            y: gd.y.z,
+        },
+    }
+}
+
+fn dw_at(area0: f64, spkstress: V3, gi: V2, ni: V2) -> f64
+    ensures { λ r. ⌜ r ≡ dwAtOf binary64 area0 spkstress gi ni ⌝ }
+{
+    area0
+        * (spkstress.x * gi.x * ni.x
+            + spkstress.z * gi.x * ni.y
+            + spkstress.z * gi.y * ni.x
+            + spkstress.y * gi.y * ni.y)
+}
+
+pub(crate) fn dw(s: State) -> [f64; 9]
+    ensures { λ r. ⌜ r ≡ dwOf binary64 s ⌝ }
+{
+    let mut dw = [0.0; 9];
+    for ino in 0..3usize {
+        for idim in 0..3usize {
+            dw[ino * 3 + idim] = dw_at(s.rest.area0, s.spkstress, along(s.gd, idim), dndr(ino));
+        }
+    }
+    dw
+}
+
+fn dtmp0(e: Tensor, gi: V2, ni: V2, gj: V2, nj: V2) -> f64
+    ensures { λ r. ⌜ r ≡ dtmp0Of binary64 e gi ni gj nj ⌝ }
+{
+    let mut dtmp0 = 0.0;
+    dtmp0 += gi.x * ni.x * e.x.x * gj.x * nj.x;
+    dtmp0 += gi.x * ni.x * e.x.y * gj.y * nj.y;
+    dtmp0 += gi.x * ni.x * e.x.z * gj.x * nj.y;
+    dtmp0 += gi.x * ni.x * e.x.z * gj.y * nj.x;
+    dtmp0 += gi.y * ni.y * e.y.x * gj.x * nj.x;
+    dtmp0 += gi.y * ni.y * e.y.y * gj.y * nj.y;
+    dtmp0 += gi.y * ni.y * e.y.z * gj.x * nj.y;
+    dtmp0 += gi.y * ni.y * e.y.z * gj.y * nj.x;
+    dtmp0 += gi.x * ni.y * e.z.x * gj.x * nj.x;
+    dtmp0 += gi.x * ni.y * e.z.y * gj.y * nj.y;
+    dtmp0 += gi.x * ni.y * e.z.z * gj.x * nj.y;
+    dtmp0 += gi.x * ni.y * e.z.z * gj.y * nj.x;
+    dtmp0 += gi.y * ni.x * e.z.x * gj.x * nj.x;
+    dtmp0 += gi.y * ni.x * e.z.y * gj.y * nj.y;
+    dtmp0 += gi.y * ni.x * e.z.z * gj.x * nj.y;
+    dtmp0 += gi.y * ni.x * e.z.z * gj.y * nj.x;
+    dtmp0
+}
+
+fn dtmp1(area0: f64, spkstress: V3, ni: V2, nj: V2) -> f64
+    ensures { λ r. ⌜ r ≡ dtmp1Of binary64 area0 spkstress ni nj ⌝ }
+{
+    area0
+        * (spkstress.x * ni.x * nj.x
+            + spkstress.z * ni.x * nj.y
+            + spkstress.z * ni.y * nj.x
+            + spkstress.y * ni.y * nj.y)
+}
+
+// dtmp0 * area0 for jdim = 0, 1, 2.
+fn row(s: State, gi: V2, ni: V2, nj: V2) -> V3
+    ensures { λ r. ⌜ r ≡ rowOf binary64 s gi ni nj ⌝ }
+{
+    let area0 = s.rest.area0;
+    V3 {
+        x: dtmp0(s.tensor, gi, ni, along(s.gd, 0), nj) * area0,
+        y: dtmp0(s.tensor, gi, ni, along(s.gd, 1), nj) * area0,
+        z: dtmp0(s.tensor, gi, ni, along(s.gd, 2), nj) * area0,
+    }
+}
+
+// The same for jno = 0, 1, 2. Only the last factor of a term of dtmp0 depends on jno, and here it is known: the compiler forms the product of the others once, and
+// multiplies by neither 1 nor -1.
+fn rows(s: State, gi: V2, ni: V2) -> Tensor
+    ensures { λ r. ⌜ r ≡ rowsOf binary64 s gi ni ⌝ }
+{
+    let x = row(s, gi, ni, dndr(0));
+    let y = row(s, gi, ni, dndr(1));
+    let z = row(s, gi, ni, dndr(2));
+    Tensor { x, y, z }
+}
+
+// Three blocks from their rows for idim = 0, 1, 2; dtmp1 is added to a block's entries 0, 4 and 8.
+fn three_blocks(x: Tensor, y: Tensor, z: Tensor, dtmp1: V3) -> [f64; 27]
+    ensures { λ r. ⌜ r ≡ (blockOf binary64 (x .x) (y .x) (z .x) (dtmp1 .x) ++ blockOf binary64 (x .y) (y .y) (z .y) (dtmp1 .y))
+        ++ blockOf binary64 (x .z) (y .z) (z .z) (dtmp1 .z) ⌝ }
+{
+    [
+        x.x.x + dtmp1.x,
+        x.x.y,
+        x.x.z,
+        y.x.x,
+        y.x.y + dtmp1.x,
+        y.x.z,
+        z.x.x,
+        z.x.y,
+        z.x.z + dtmp1.x,
+        x.y.x + dtmp1.y,
+        x.y.y,
+        x.y.z,
+        y.y.x,
+        y.y.y + dtmp1.y,
+        y.y.z,
+        z.y.x,
+        z.y.y,
+        z.y.z + dtmp1.y,
+        x.z.x + dtmp1.z,
+        x.z.y,
+        x.z.z,
+        y.z.x,
+        y.z.y + dtmp1.z,
+        y.z.z,
+        z.z.x,
+        z.z.y,
+        z.z.z + dtmp1.z,
+    ]
+}
+
+// ddw[ino]: three blocks, for jno = 0, 1, 2.
+fn corner(s: State, ni: V2) -> [f64; 27]
+    ensures { λ r. ⌜ r ≡ each 3 (λ jno. ddwAtOf binary64 s ni (dNdrOf binary64 jno)) ⌝ }
+{
+    let x = rows(s, along(s.gd, 0), ni);
+    let y = rows(s, along(s.gd, 1), ni);
+    let z = rows(s, along(s.gd, 2), ni);
+    let dtmp1 = V3 {
+        x: dtmp1(s.rest.area0, s.spkstress, ni, dndr(0)),
+        y: dtmp1(s.rest.area0, s.spkstress, ni, dndr(1)),
+        z: dtmp1(s.rest.area0, s.spkstress, ni, dndr(2)),
+    };
+    three_blocks(x, y, z, dtmp1)
+}
+
+pub(crate) fn ddw(s: State) -> [f64; 81]
+    ensures { λ r. ⌜ r ≡ ddwOf binary64 s ⌝ }
+{
+    let mut ddw = [0.0; 81];
+    for ino in 0..3usize {
+        let d = corner(s, dndr(ino));
+        for k in 0..27usize {
+            ddw[ino * 27 + k] = d[k];
+        }
+    }
+    ddw
+}
+
+pub(crate) fn bad_input(p0: Tri3, p1: Tri3, lambda: f64, myu: f64) -> bool
+    ensures { λ r. ⌜ r ≡ badInputOf p0 p1 lambda myu ⌝ }
+{
+    !(tri3::is_finite(p0) & tri3::is_finite(p1) & float::is_finite(lambda) & float::is_finite(myu))
+}
+
+pub(crate) fn zero_divisor(rest: Rest) -> bool
+    ensures { λ r. ⌜ r ≡ zeroDivisorOf rest ⌝ }
+{
+    float::is_zero(rest.gdz.by) | float::is_zero(rest.gu0x.by) | float::is_zero(rest.gu0y.by)
+}
+
+pub(crate) fn bad_answer(w: f64, dw: [f64; 9], ddw: [f64; 81]) -> bool
+    ensures { λ r. ⌜ r ≡ badAnswerOf w dw ddw ⌝ }
+{
+    !(float::is_finite(w) & float::all_finite(&dw) & float::all_finite(&ddw))
+}
