@@ -84,7 +84,17 @@ fn bending() -> Vec<Vec<f64>> {
             cases.push([rest, deformed].concat());
         }
     }
+    cases.push(subnormal_height());
     cases
+}
+
+/// h0 is subnormal, and so the answer overflows.
+fn subnormal_height() -> Vec<f64> {
+    let mut rest = [0.0; 12];
+    rest[1] = power(-1023);
+    rest[4] = -1.0;
+    rest[9] = power(486);
+    [rest, [0.0; 12]].concat()
 }
 
 fn strain() -> Vec<Vec<f64>> {
@@ -218,6 +228,7 @@ fn stvk() -> Vec<Vec<f64>> {
         .collect();
     cases.push(energy_near_the_top());
     cases.push(stiffness_near_the_top());
+    cases.push(dots_of_minus_zero());
     for rest in [rest, line, clockwise, turned, skewed] {
         for deformed in [pulled, pulled.map(|x| x * -0.5), rest, [0.0; 9], [-0.0; 9]] {
             for lame in [[0.0, 1.0], [1.0, 0.0], [-1.0, -0.0]] {
@@ -239,6 +250,13 @@ fn energy_near_the_top() -> Vec<f64> {
 fn stiffness_near_the_top() -> Vec<f64> {
     let rest = [0.0, 0.0, 0.0, 1.0, 0.0, 0.0, 0.0, 1.0, 0.0].map(|x| x * power(120));
     [&rest[..], &rest, &[0.0, power(1023)]].concat()
+}
+
+/// The normal's norm is infinite, and both dots are -0.
+fn dots_of_minus_zero() -> Vec<f64> {
+    let h = power(256);
+    let rest = [0.0, h, h, -0.0, 0.0, 0.0, -0.0, -0.0, -h];
+    [&rest[..], &rest, &[1.0, 1.0]].concat()
 }
 
 fn plate() -> Vec<Vec<f64>> {

@@ -11,14 +11,20 @@ use Rattle.del_geo_core.specs.declared.tri2.Tri2.{Tri2}
 use Rattle.del_geo_core.specs.declared.tri3.Tri3.{Tri3}
 use Rattle.del_geo_core.specs.declared.tri3.NormalArea.{NormalArea}
 use Rattle.del_geo_core.specs.declared.curve_linear_coords.DualBasis.{DualBasis}
-use Rattle.del_geo_core.specs.Vec3.{dotOf, crossOf, subOf, scaleOf, normOf, overOf, unitOf, normalizeOf, isFiniteOf}
+use Rattle.del_geo_core.specs.Vec3.{dotOf, crossOf, subOf, scaleOf, normOf, overOf, unitOf, normalizeOf, isFiniteOf, pointOf}
 use Rattle.del_geo_core.specs.Tri2 as tri2
 use Rattle.del_geo_core.specs.Tri3 as tri3
 use Rattle.del_geo_core.specs.Edge.{lengthOf}
 use Rattle.del_geo_core.specs.CurveLinearCoords.{contravariantOf, inverseOf}
 
+pub point : (a : List Float) {r q : V3} → r ≡ pointOf a → q ≡ pointOf a → r ≡ q
+point a = only
+
 pub is-finite : (a : V3) {r q : Bool} → r ≡ isFiniteOf a → q ≡ isFiniteOf a → r ≡ q
 is-finite a = only
+
+pub plane-point : (a : List Float) {r q : V2} → r ≡ tri2.pointOf a → q ≡ tri2.pointOf a → r ≡ q
+plane-point a = only
 
 pub plane-corners : (p : List (List Float)) {r q : Tri2} → r ≡ tri2.cornersOf p → q ≡ tri2.cornersOf p → r ≡ q
 plane-corners p = only

@@ -8,12 +8,12 @@ use Rattle.float.specs.Ops.{Ops, ops}
 use Rattle.del_geo_core.specs.declared.tri2.V2.{V2}
 use Rattle.del_geo_core.specs.declared.tri2.Tri2.{Tri2}
 
+-- a row of nested lists
+abbrev pub pointOf : List Float → V2
+pointOf a = record { x = a ! 0; y = a ! 1 }
+
 abbrev pub cornersOf : List (List Float) → Tri2
-cornersOf p = record {
-  p0 = record { x = p !! 0 ! 0; y = p !! 0 ! 1 };
-  p1 = record { x = p !! 1 ! 0; y = p !! 1 ! 1 };
-  p2 = record { x = p !! 2 ! 0; y = p !! 2 ! 1 };
-}
+cornersOf p = record { p0 = pointOf (p !! 0); p1 = pointOf (p !! 1); p2 = pointOf (p !! 2) }
 
 unfoldable pub isFiniteOf : Tri2 → Bool
 isFiniteOf p = finite (p .p0 .x) && finite (p .p0 .y) && finite (p .p1 .x) && finite (p .p1 .y) && finite (p .p2 .x) && finite (p .p2 .y)

@@ -2,20 +2,16 @@
 use mathlib.Core.Bool.{Bool, _&&_}
 use mathlib.Core.List.{List}
 use lib.Ieee.{Float, Format}
-use Rattle.float.specs.Lists.{_!_, _!!_}
+use Rattle.float.specs.Lists.{_!!_}
 use Rattle.float.specs.Ops.{Ops, ops}
 use Rattle.del_geo_core.specs.declared.vec3.V3.{V3}
 use Rattle.del_geo_core.specs.declared.tri3.Tri3.{Tri3}
 use Rattle.del_geo_core.specs.declared.tri3.NormalArea.{NormalArea}
 use Rattle.del_geo_core.specs.Vec3 as vec3
-use Rattle.del_geo_core.specs.Vec3.{crossOf, subOf, normOf, unitOf}
+use Rattle.del_geo_core.specs.Vec3.{pointOf, crossOf, subOf, normOf, unitOf}
 
 abbrev pub cornersOf : List (List Float) → Tri3
-cornersOf p = record {
-  p0 = record { x = p !! 0 ! 0; y = p !! 0 ! 1; z = p !! 0 ! 2 };
-  p1 = record { x = p !! 1 ! 0; y = p !! 1 ! 1; z = p !! 1 ! 2 };
-  p2 = record { x = p !! 2 ! 0; y = p !! 2 ! 1; z = p !! 2 ! 2 };
-}
+cornersOf p = record { p0 = pointOf (p !! 0); p1 = pointOf (p !! 1); p2 = pointOf (p !! 2) }
 
 unfoldable pub isFiniteOf : Tri3 → Bool
 isFiniteOf p = vec3.isFiniteOf (p .p0) && vec3.isFiniteOf (p .p1) && vec3.isFiniteOf (p .p2)

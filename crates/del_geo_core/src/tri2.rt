@@ -1,7 +1,7 @@
 // Triangles in the plane.
 ghost use mathlib.Core.Path.{_≡_};
 ghost use lib.Ieee.{binary64};
-ghost use Rattle.del_geo_core.specs.Tri2.{areaOf, cornersOf, isFiniteOf};
+ghost use Rattle.del_geo_core.specs.Tri2.{pointOf, cornersOf, isFiniteOf, areaOf};
 
 pub struct V2 {
     pub x: f64,
@@ -14,22 +14,19 @@ pub struct Tri2 {
     pub p2: V2,
 }
 
-// p[1][0] is p1.x from here on.
+// a[0] is x from here on.
+pub fn point(a: [f64; 2]) -> V2
+    ensures { λ r. ⌜ r ≡ pointOf a ⌝ }
+{
+    V2 { x: a[0], y: a[1] }
+}
+
 pub fn corners(p: [[f64; 2]; 3]) -> Tri2
     ensures { λ r. ⌜ r ≡ cornersOf p ⌝ }
 {
-    let p0 = V2 {
-        x: p[0][0],
-        y: p[0][1],
-    };
-    let p1 = V2 {
-        x: p[1][0],
-        y: p[1][1],
-    };
-    let p2 = V2 {
-        x: p[2][0],
-        y: p[2][1],
-    };
+    let p0 = point(p[0]);
+    let p1 = point(p[1]);
+    let p2 = point(p[2]);
     Tri2 { p0, p1, p2 }
 }
 

@@ -18,25 +18,12 @@ pub struct NormalArea {
     pub area: f64,
 }
 
-// p[1][0] is p1.x from here on.
 pub fn corners(p: [[f64; 3]; 3]) -> Tri3
     ensures { λ r. ⌜ r ≡ cornersOf p ⌝ }
 {
-    let p0 = V3 {
-        x: p[0][0],
-        y: p[0][1],
-        z: p[0][2],
-    };
-    let p1 = V3 {
-        x: p[1][0],
-        y: p[1][1],
-        z: p[1][2],
-    };
-    let p2 = V3 {
-        x: p[2][0],
-        y: p[2][1],
-        z: p[2][2],
-    };
+    let p0 = vec3::point(p[0]);
+    let p1 = vec3::point(p[1]);
+    let p2 = vec3::point(p[2]);
     Tri3 { p0, p1, p2 }
 }
 

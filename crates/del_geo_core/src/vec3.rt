@@ -1,7 +1,7 @@
 // Vectors of three numbers.
 ghost use mathlib.Core.Path.{_≡_};
 ghost use lib.Ieee.{binary64};
-ghost use Rattle.del_geo_core.specs.Vec3.{dotOf, crossOf, subOf, scaleOf, normOf, overOf, unitOf, normalizeOf, isFiniteOf};
+ghost use Rattle.del_geo_core.specs.Vec3.{pointOf, isFiniteOf, dotOf, crossOf, subOf, scaleOf, normOf, overOf, unitOf, normalizeOf};
 
 pub struct V3 {
     pub x: f64,
@@ -13,6 +13,17 @@ pub struct V3 {
 pub struct Divided {
     pub v: V3,
     pub by: f64,
+}
+
+// a[0] is x from here on.
+pub fn point(a: [f64; 3]) -> V3
+    ensures { λ r. ⌜ r ≡ pointOf a ⌝ }
+{
+    V3 {
+        x: a[0],
+        y: a[1],
+        z: a[2],
+    }
 }
 
 pub fn dot(a: V3, b: V3) -> f64

@@ -11,7 +11,7 @@ use Rattle.float.specs.Numbers.{isZero}
 use Rattle.float.specs.Lists.{_!_, _!!_, allFinite, table, each}
 use Rattle.root.specs.Root.{rootOf}
 use Rattle.del_geo_core.specs.Vec3 as vec3
-use Rattle.del_geo_core.specs.Vec3.{dotOf, subOf}
+use Rattle.del_geo_core.specs.Vec3.{pointOf, dotOf, subOf}
 use Rattle.del_geo_core.specs.Tri3.{areaOf}
 use Rattle.del_geo_core.specs.Edge.{lengthOf}
 use Rattle.refusal.specs.Refusal.{accepted, kernelNumber}
@@ -20,12 +20,7 @@ use Rattle.quadratic_bending.specs.declared.Divisors.{Divisors}
 use Rattle.quadratic_bending.specs.declared.Bending.{Bending}
 
 abbrev pub cornersOf : List (List Float) → Fold
-cornersOf p = record {
-  p0 = record { x = p !! 0 ! 0; y = p !! 0 ! 1; z = p !! 0 ! 2 };
-  p1 = record { x = p !! 1 ! 0; y = p !! 1 ! 1; z = p !! 1 ! 2 };
-  p2 = record { x = p !! 2 ! 0; y = p !! 2 ! 1; z = p !! 2 ! 2 };
-  p3 = record { x = p !! 3 ! 0; y = p !! 3 ! 1; z = p !! 3 ! 2 };
-}
+cornersOf p = record { p0 = pointOf (p !! 0); p1 = pointOf (p !! 1); p2 = pointOf (p !! 2); p3 = pointOf (p !! 3) }
 
 unfoldable pub isFiniteOf : Fold → Bool
 isFiniteOf p = vec3.isFiniteOf (p .p0) && vec3.isFiniteOf (p .p1) && vec3.isFiniteOf (p .p2) && vec3.isFiniteOf (p .p3)

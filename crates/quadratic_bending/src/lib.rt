@@ -32,30 +32,13 @@ pub struct Bending {
     pub dwdp: [f64; 36],
 }
 
-// p[1][0] is p1.x from here on.
 fn corners(p: [[f64; 3]; 4]) -> Fold
     ensures { λ r. ⌜ r ≡ cornersOf p ⌝ }
 {
-    let p0 = V3 {
-        x: p[0][0],
-        y: p[0][1],
-        z: p[0][2],
-    };
-    let p1 = V3 {
-        x: p[1][0],
-        y: p[1][1],
-        z: p[1][2],
-    };
-    let p2 = V3 {
-        x: p[2][0],
-        y: p[2][1],
-        z: p[2][2],
-    };
-    let p3 = V3 {
-        x: p[3][0],
-        y: p[3][1],
-        z: p[3][2],
-    };
+    let p0 = vec3::point(p[0]);
+    let p1 = vec3::point(p[1]);
+    let p2 = vec3::point(p[2]);
+    let p3 = vec3::point(p[3]);
     Fold { p0, p1, p2, p3 }
 }
 

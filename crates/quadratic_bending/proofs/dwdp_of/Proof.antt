@@ -2,9 +2,9 @@
 use mathlib.Core.Path.{_≡_, refl}
 use Prim.Native.Nat.{ℕ, _+_, _*_, _-_, _≤_}
 use native.Mathlib.Omega.{arith}
-use lib.Ieee.{Float, binary64}
+use lib.Ieee.{binary64}
 use lib.ListN.{replicate}
-use Rattle.float.specs.Ops.{Ops, ops}
+use Rattle.float.specs.Ops.{ops}
 use Rattle.float.specs.Lists.{_!_, table, each}
 use Rattle.float.proofs.Fill.{run, run-more, rows, rows-more}
 use Rattle.quadratic_bending.specs.Bending.{dwdpOf}
