@@ -9,7 +9,7 @@ use borrow.Author.Tests.{ne-eqb}
 use Rattle.float.specs.Ops.{Ops, ops}
 use Rattle.float.proofs.Unique.{only}
 use Rattle.refusal.specs.Refusal.{accepted, badInput, zeroDivisor, badAnswer}
-use Rattle.refusal.proofs.KernelNumber.{refused-0, refused-3, refused-4, refused-5}
+use Rattle.refusal.proofs.KernelNumber.{nothing-refused, refused-3, refused-4, refused-5}
 use Rattle.quadratic_bending.specs.declared.Fold.{Fold}
 use Rattle.quadratic_bending.specs.declared.Divisors.{Divisors}
 use Rattle.quadratic_bending.specs.declared.Bending.{Bending}
@@ -47,7 +47,7 @@ module _ (f : Format) (ini def : Fold) where
   pub accepted-exactly : wdwOf f ini def .number ≡ accepted
       ↔ ((badInputOf ini def ≡ false) × (zeroDivisorOf divisors ≡ false) × (badAnswerOf w dwdp ≡ false))
   unfolding wdwOf bendingOf
-  accepted-exactly = refused-0 _ _ _
+  accepted-exactly = nothing-refused _ _ _
 
   -- after a refusal every value is +0
   pub refused-values : (wdwOf f ini def .number ≡ accepted → ⊥) → (wdwOf f ini def .w ≡ replicate 3 zero) × (wdwOf f ini def .dwdp ≡ replicate 36 zero)

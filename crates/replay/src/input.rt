@@ -57,3 +57,22 @@ pub(crate) fn next_numbers(count: usize) -> Numbers {
     }
     Numbers { ok, x }
 }
+
+// In rows of three, as the kernels take them.
+pub(crate) fn rows(x: [f64; 24]) -> [[f64; 3]; 8] {
+    [
+        [x[0], x[1], x[2]],
+        [x[3], x[4], x[5]],
+        [x[6], x[7], x[8]],
+        [x[9], x[10], x[11]],
+        [x[12], x[13], x[14]],
+        [x[15], x[16], x[17]],
+        [x[18], x[19], x[20]],
+        [x[21], x[22], x[23]],
+    ]
+}
+
+// The first six numbers as three plane points.
+pub(crate) fn plane(x: [[f64; 3]; 8]) -> [[f64; 2]; 3] {
+    [[x[0][0], x[0][1]], [x[0][2], x[1][0]], [x[1][1], x[1][2]]]
+}

@@ -38,7 +38,7 @@ fn replay_helper() -> Outcome {
             if read.ok & helpers::is_known(helper) {
                 output::start_line(0);
                 let x = read.x;
-                helpers::answer(helper, x);
+                helpers::answer(helper, input::rows(x));
                 output::end_line();
                 return Outcome::Answered;
             }
@@ -53,7 +53,7 @@ fn replay_kernel(kind: u64) -> Outcome {
     let read = input::next_numbers(kernels::inputs(kind));
     if read.ok {
         let x = read.x;
-        kernels::answer(kind, x);
+        kernels::answer(kind, input::rows(x));
         output::end_line();
         return Outcome::Answered;
     }

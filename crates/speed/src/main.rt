@@ -12,10 +12,10 @@ fn next_word() -> u64 {
     float::of_bytes(b[0], b[1], b[2], b[3], b[4], b[5], b[6], b[7])
 }
 
-fn next_numbers() -> [f64; 24] {
-    let mut x = [0.0; 24];
+fn next_numbers() -> [[f64; 3]; 8] {
+    let mut x = [[0.0; 3]; 8];
     for i in 0..24 {
-        x[i] = float::of_word(next_word());
+        x[i / 3][i % 3] = float::of_word(next_word());
     }
     x
 }
@@ -23,24 +23,16 @@ fn next_numbers() -> [f64; 24] {
 // By how much a call moves one rest coordinate and one deformed one from where the call before had them, so that no call is like another: 2^-20.
 const STEP: f64 = 0.00000095367431640625;
 
-fn root(x: [f64; 24], s: f64) -> f64 {
-    root::sqrt(x[0] + s)
+fn root(x: [[f64; 3]; 8], s: f64) -> f64 {
+    root::sqrt(x[0][0] + s)
 }
 
 // Call k moves by s. Values at changing places are taken, so that none can be left out.
-fn bending(x: [f64; 24], s: f64, k: u64) -> f64 {
-    let p_ini = [
-        [x[0] + s, x[1], x[2]],
-        [x[3], x[4], x[5]],
-        [x[6], x[7], x[8]],
-        [x[9], x[10], x[11]],
-    ];
-    let p_def = [
-        [x[12] + s, x[13], x[14]],
-        [x[15], x[16], x[17]],
-        [x[18], x[19], x[20]],
-        [x[21], x[22], x[23]],
-    ];
+fn bending(x: [[f64; 3]; 8], s: f64, k: u64) -> f64 {
+    let mut p_ini = [x[0], x[1], x[2], x[3]];
+    let mut p_def = [x[4], x[5], x[6], x[7]];
+    p_ini[0][0] += s;
+    p_def[0][0] += s;
     let answer = quadratic_bending::wdw(p_ini, p_def);
     let w = answer.w;
     let dwdp = answer.dwdp;
@@ -48,13 +40,14 @@ fn bending(x: [f64; 24], s: f64, k: u64) -> f64 {
     w[at % 3] + dwdp[at]
 }
 
-fn strain(x: [f64; 24], s: f64, k: u64) -> f64 {
-    let p_ini = [[x[0] + s, x[1]], [x[2], x[3]], [x[4], x[5]]];
-    let p_def = [
-        [x[6] + s, x[7], x[8]],
-        [x[9], x[10], x[11]],
-        [x[12], x[13], x[14]],
+fn strain(x: [[f64; 3]; 8], s: f64, k: u64) -> f64 {
+    let p_ini = [
+        [x[0][0] + s, x[0][1]],
+        [x[0][2], x[1][0]],
+        [x[1][1], x[1][2]],
     ];
+    let mut p_def = [x[2], x[3], x[4]];
+    p_def[0][0] += s;
     let answer = stvk_tri3::wdw(p_ini, p_def);
     let w = answer.w;
     let dw = answer.dw;
@@ -62,25 +55,19 @@ fn strain(x: [f64; 24], s: f64, k: u64) -> f64 {
     w[at % 3] + dw[at]
 }
 
-fn stvk(x: [f64; 24], s: f64, k: u64) -> f64 {
-    let p0 = [
-        [x[0] + s, x[1], x[2]],
-        [x[3], x[4], x[5]],
-        [x[6], x[7], x[8]],
-    ];
-    let p1 = [
-        [x[9] + s, x[10], x[11]],
-        [x[12], x[13], x[14]],
-        [x[15], x[16], x[17]],
-    ];
-    let answer = stvk_tri3::wdwddw_(p0, p1, x[18], x[19]);
+fn stvk(x: [[f64; 3]; 8], s: f64, k: u64) -> f64 {
+    let mut p0 = [x[0], x[1], x[2]];
+    let mut p1 = [x[3], x[4], x[5]];
+    p0[0][0] += s;
+    p1[0][0] += s;
+    let answer = stvk_tri3::wdwddw_(p0, p1, x[6][0], x[6][1]);
     let dw = answer.dw;
     let ddw = answer.ddw;
     let at = (k % 81) as usize;
     answer.w + dw[at % 9] + ddw[at]
 }
 
-fn call(kind: u64, x: [f64; 24], s: f64, k: u64) -> f64 {
+fn call(kind: u64, x: [[f64; 3]; 8], s: f64, k: u64) -> f64 {
     match kind {
         1 => root(x, s),
         2 => bending(x, s, k),
@@ -90,7 +77,7 @@ fn call(kind: u64, x: [f64; 24], s: f64, k: u64) -> f64 {
     }
 }
 
-fn sum(kind: u64, count: u64, x: [f64; 24]) -> f64 {
+fn sum(kind: u64, count: u64, x: [[f64; 3]; 8]) -> f64 {
     let mut s = 0.0;
     let mut sum = 0.0;
     for k in 0..count {

@@ -1,4 +1,4 @@
--- What the statement of `wdwddw_` leaves no choice about: the answer itself; which number comes where; +0 throughout after a refusal.
+-- What `wdwddw_` answers, in the scope's words: one answer fits, and each number is given exactly where its test holds and that of no smaller one does.
 use mathlib.Core.Path.{_≡_}
 use mathlib.Core.Bool.{Bool, true, false}
 use mathlib.Core.List.{List}
@@ -10,11 +10,12 @@ use Rattle.float.proofs.Unique.{only}
 use Rattle.refusal.specs.Refusal.{accepted, badInput, zeroDivisor, badAnswer}
 use Rattle.refusal.specs.Answers.{energyOf}
 use Rattle.refusal.specs.declared.Energy.{Energy}
-use Rattle.refusal.proofs.KernelNumber.{refused-0, refused-3, refused-4, refused-5}
+use Rattle.refusal.proofs.KernelNumber.{nothing-refused, refused-3, refused-4, refused-5}
 use Rattle.refusal.proofs.Answers.{energy-refused}
 use Rattle.del_geo_core.specs.declared.tri3.Tri3.{Tri3}
 use Rattle.stvk_tri3.specs.Stvk.{restOf, stateOf, wOf, dwOf, ddwOf, badInputOf, zeroDivisorOf, badAnswerOf, wdwddwOf, IsEnergy}
 
+-- no second answer fits
 pub unique : (f : Format) (p0 p1 : List (List Float)) (lambda myu : Float) {r q : Energy} → IsEnergy f p0 p1 lambda myu r
     → IsEnergy f p0 p1 lambda myu q → r ≡ q
 unique f p0 p1 lambda myu = only
@@ -48,8 +49,9 @@ module _ (f : Format) (p0 p1 : Tri3) (lambda myu : Float) where
 
   pub accepted-exactly : answer .number ≡ accepted ↔ ((inputBad ≡ false) × (divisorZero ≡ false) × (answerBad ≡ false))
   unfolding wdwddwOf energyOf stateOf
-  accepted-exactly = refused-0 _ _ _
+  accepted-exactly = nothing-refused _ _ _
 
+  -- after a refusal every value is +0
   pub refused-values : (answer .number ≡ accepted → ⊥)
       → answer ≡ record { number = answer .number; w = zero; dw = replicate 9 zero; ddw = replicate 81 zero }
   unfolding wdwddwOf energyOf

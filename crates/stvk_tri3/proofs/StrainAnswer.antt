@@ -9,7 +9,7 @@ use borrow.Author.Tests.{ne-eqb}
 use Rattle.float.specs.Ops.{Ops, ops}
 use Rattle.float.proofs.Unique.{only}
 use Rattle.refusal.specs.Refusal.{accepted, badInput, zeroDivisor, badAnswer}
-use Rattle.refusal.proofs.KernelNumber.{refused-0, refused-3, refused-4, refused-5}
+use Rattle.refusal.proofs.KernelNumber.{nothing-refused, refused-3, refused-4, refused-5}
 use Rattle.del_geo_core.specs.declared.tri2.Tri2.{Tri2}
 use Rattle.del_geo_core.specs.declared.tri3.Tri3.{Tri3}
 use Rattle.stvk_tri3.specs.declared.Strain.{Strain}
@@ -47,7 +47,7 @@ module _ (f : Format) (ini : Tri2) (def : Tri3) where
   pub accepted-exactly : wdwOf f ini def .number ≡ accepted
       ↔ ((badInputOf ini def ≡ false) × (zeroDivisorOf rest ≡ false) × (badAnswerOf (values .w) (values .dw) ≡ false))
   unfolding wdwOf strainOf
-  accepted-exactly = refused-0 _ _ _
+  accepted-exactly = nothing-refused _ _ _
 
   -- after a refusal every value is +0
   pub refused-values : (wdwOf f ini def .number ≡ accepted → ⊥) → (wdwOf f ini def .w ≡ replicate 3 zero) × (wdwOf f ini def .dw ≡ replicate 27 zero)

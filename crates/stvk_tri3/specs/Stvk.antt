@@ -165,7 +165,7 @@ module _ (f : Format) where
   unfoldable pub ddwOf : State → List Float
   ddwOf s = each 3 (λ ino. each 3 (λ jno. ddwAtOf s (dNdrOf ino) (dNdrOf jno)))
 
-  -- the values where nothing is refused
+  -- the number by the ladder, and the values where nothing is refused
   unfoldable pub wdwddwOf : (p0 p1 : Tri3) (lambda myu : Float) → Energy
   wdwddwOf p0 p1 lambda myu =
       let s = stateOf p0 p1 lambda myu in

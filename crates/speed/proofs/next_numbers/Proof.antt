@@ -1,4 +1,4 @@
--- `next_numbers` is safe and ends: a turn writes below the last place.
+-- `next_numbers` is safe and ends: a turn writes within a row.
 use Prim.Native.Nat.{_≤_, _-_}
 use native.Mathlib.Omega.{arith}
 use Rattle.speed.proofs.next_numbers.Statement.{statement}
@@ -11,6 +11,8 @@ next-numbers-spec = tie.close (tie.spec
     (λ c. omega arith)
     (λ c κs. tt)
     (λ c κs. tt)
+    (λ c. omega arith)
+    (λ c. omega arith)
     (λ c. omega arith)
     (λ c. omega arith)
     (λ c. omega arith)
