@@ -32,6 +32,7 @@ pub fn original(kind: u64) -> Vec<f64> {
     chosen(kind).swap_remove(0)
 }
 
+/// The original file's own input comes first.
 fn chosen(kind: u64) -> Vec<Vec<f64>> {
     match kind {
         BENDING => bending(),
@@ -84,8 +85,18 @@ fn bending() -> Vec<Vec<f64>> {
             cases.push([rest, deformed].concat());
         }
     }
+    cases.push(length_alone());
     cases.push(subnormal_height());
     cases
+}
+
+/// The edge has no length, and the other divisors are NaN.
+fn length_alone() -> Vec<f64> {
+    let mut rest = [0.0; 12];
+    rest[0] = power(512);
+    rest[1] = power(512);
+    rest[4] = 1.0;
+    [rest, [0.0; 12]].concat()
 }
 
 /// h0 is subnormal, and so the answer overflows.
@@ -357,7 +368,7 @@ fn one_infinite(kind: u64, random: &mut Random, layout: &Layout) -> Vec<Record> 
 
 /// Each input in turn infinite or NaN over an accepted case.
 fn each_input_special(kind: u64) -> Vec<Record> {
-    let accepted = chosen(kind).swap_remove(0);
+    let accepted = original(kind);
     let bad = [
         f64::NEG_INFINITY,
         f64::NAN,

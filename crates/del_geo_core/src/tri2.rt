@@ -14,7 +14,7 @@ pub struct Tri2 {
     pub p2: V2,
 }
 
-// a[0] is x from here on.
+// A row of nested arrays as a point.
 pub fn point(a: [f64; 2]) -> V2
     ensures { λ r. ⌜ r ≡ pointOf a ⌝ }
 {

@@ -15,7 +15,7 @@ pub struct Divided {
     pub by: f64,
 }
 
-// a[0] is x from here on.
+// A row of nested arrays as a point.
 pub fn point(a: [f64; 3]) -> V3
     ensures { λ r. ⌜ r ≡ pointOf a ⌝ }
 {

@@ -1,4 +1,3 @@
 pub mod Ladder
 pub mod KernelNumber
-pub mod Answers
 pub mod Unique

@@ -2,12 +2,8 @@
 use crate::input;
 use crate::output;
 
-const BENDING: u64 = 2;
-
-const STVK: u64 = 4;
-
 pub(crate) fn is_known(kind: u64) -> bool {
-    (BENDING <= kind) & (kind <= STVK)
+    (2 <= kind) & (kind <= 4)
 }
 
 pub(crate) fn inputs(kind: u64) -> usize {

@@ -1,5 +1,6 @@
 // Calls a routine many times, so that the instructions of one call can be counted (docs/SPEED.md). Standard input holds runs of big-endian 64-bit words: the routine's
-// number of docs/REPLAY.md, how many calls, and 24 numbers by their bits, its inputs first. A line for each run: the bits of the sum of what the calls gave.
+// number of docs/REPLAY.md (any other: nothing is called), how many calls, and 24 numbers by their bits, its inputs first. A line for each run: the bits of the sum of
+// what the calls gave.
 use libc::STDIN_FILENO;
 use libc::STDOUT_FILENO;
 
@@ -20,59 +21,63 @@ fn next_numbers() -> [[f64; 3]; 8] {
     x
 }
 
-// By how much a call moves one rest coordinate and one deformed one from where the call before had them, so that no call is like another: 2^-20.
+// By how much every number moves from one call to the next, so that no call can use what another computed: 2^-20.
 const STEP: f64 = 0.00000095367431640625;
 
-fn root(x: [[f64; 3]; 8], s: f64) -> f64 {
-    root::sqrt(x[0][0] + s)
+fn moved_row(a: [f64; 3], s: f64) -> [f64; 3] {
+    [a[0] + s, a[1] + s, a[2] + s]
 }
 
-// Call k moves by s. Values at changing places are taken, so that none can be left out.
-fn bending(x: [[f64; 3]; 8], s: f64, k: u64) -> f64 {
-    let mut p_ini = [x[0], x[1], x[2], x[3]];
-    let mut p_def = [x[4], x[5], x[6], x[7]];
-    p_ini[0][0] += s;
-    p_def[0][0] += s;
-    let answer = quadratic_bending::wdw(p_ini, p_def);
+fn moved(x: [[f64; 3]; 8], s: f64) -> [[f64; 3]; 8] {
+    [
+        moved_row(x[0], s),
+        moved_row(x[1], s),
+        moved_row(x[2], s),
+        moved_row(x[3], s),
+        moved_row(x[4], s),
+        moved_row(x[5], s),
+        moved_row(x[6], s),
+        moved_row(x[7], s),
+    ]
+}
+
+fn root(x: [[f64; 3]; 8]) -> f64 {
+    root::sqrt(x[0][0])
+}
+
+// Of call k. Values at changing places are taken, so that none can be left out.
+fn bending(x: [[f64; 3]; 8], k: u64) -> f64 {
+    let answer = quadratic_bending::wdw([x[0], x[1], x[2], x[3]], [x[4], x[5], x[6], x[7]]);
     let w = answer.w;
     let dwdp = answer.dwdp;
     let at = (k % 36) as usize;
     w[at % 3] + dwdp[at]
 }
 
-fn strain(x: [[f64; 3]; 8], s: f64, k: u64) -> f64 {
-    let p_ini = [
-        [x[0][0] + s, x[0][1]],
-        [x[0][2], x[1][0]],
-        [x[1][1], x[1][2]],
-    ];
-    let mut p_def = [x[2], x[3], x[4]];
-    p_def[0][0] += s;
-    let answer = stvk_tri3::wdw(p_ini, p_def);
+fn strain(x: [[f64; 3]; 8], k: u64) -> f64 {
+    let p_ini = [[x[0][0], x[0][1]], [x[0][2], x[1][0]], [x[1][1], x[1][2]]];
+    let answer = stvk_tri3::wdw(p_ini, [x[2], x[3], x[4]]);
     let w = answer.w;
     let dw = answer.dw;
     let at = (k % 27) as usize;
     w[at % 3] + dw[at]
 }
 
-fn stvk(x: [[f64; 3]; 8], s: f64, k: u64) -> f64 {
-    let mut p0 = [x[0], x[1], x[2]];
-    let mut p1 = [x[3], x[4], x[5]];
-    p0[0][0] += s;
-    p1[0][0] += s;
-    let answer = stvk_tri3::wdwddw_(p0, p1, x[6][0], x[6][1]);
+fn stvk(x: [[f64; 3]; 8], k: u64) -> f64 {
+    let lame = x[6];
+    let answer = stvk_tri3::wdwddw_([x[0], x[1], x[2]], [x[3], x[4], x[5]], lame[0], lame[1]);
     let dw = answer.dw;
     let ddw = answer.ddw;
     let at = (k % 81) as usize;
     answer.w + dw[at % 9] + ddw[at]
 }
 
-fn call(kind: u64, x: [[f64; 3]; 8], s: f64, k: u64) -> f64 {
+fn call(kind: u64, x: [[f64; 3]; 8], k: u64) -> f64 {
     match kind {
-        1 => root(x, s),
-        2 => bending(x, s, k),
-        3 => strain(x, s, k),
-        4 => stvk(x, s, k),
+        1 => root(x),
+        2 => bending(x, k),
+        3 => strain(x, k),
+        4 => stvk(x, k),
         _ => 0.0,
     }
 }
@@ -81,7 +86,7 @@ fn sum(kind: u64, count: u64, x: [[f64; 3]; 8]) -> f64 {
     let mut s = 0.0;
     let mut sum = 0.0;
     for k in 0..count {
-        sum = sum + call(kind, x, s, k);
+        sum = sum + call(kind, moved(x, s), k);
         s = s + STEP;
     }
     sum

@@ -1,6 +1,6 @@
 -- What `wdw` answers, in the scope's words: one answer fits, and each number is given exactly where its test holds and that of no smaller one does.
 use mathlib.Core.Path.{_≡_}
-use mathlib.Core.Bool.{true, false}
+use mathlib.Core.Bool.{Bool, true, false}
 use mathlib.Core.List.{List}
 use mathlib.Core.Logic.{_↔_}
 use lib.Ieee.{Float, Format}
@@ -10,11 +10,10 @@ use Rattle.float.specs.Ops.{Ops, ops}
 use Rattle.float.proofs.Unique.{only}
 use Rattle.refusal.specs.Refusal.{accepted, badInput, zeroDivisor, badAnswer}
 use Rattle.refusal.proofs.KernelNumber.{nothing-refused, refused-3, refused-4, refused-5}
-use Rattle.del_geo_core.specs.declared.tri2.Tri2.{Tri2}
-use Rattle.del_geo_core.specs.declared.tri3.Tri3.{Tri3}
+use Rattle.del_geo_core.specs.Tri2 as tri2
+use Rattle.del_geo_core.specs.Tri3 as tri3
 use Rattle.stvk_tri3.specs.declared.Strain.{Strain}
 use Rattle.stvk_tri3.specs.declared.strains.Rest.{Rest}
-use Rattle.stvk_tri3.specs.declared.strains.Values.{Values}
 use Rattle.stvk_tri3.specs.Edges.{edgesOf}
 use Rattle.stvk_tri3.specs.Strain.{badInputOf, zeroDivisorOf, badAnswerOf, restOf, valuesOf, strainOf, wdwOf, IsStrain}
 
@@ -22,34 +21,38 @@ use Rattle.stvk_tri3.specs.Strain.{badInputOf, zeroDivisorOf, badAnswerO
 pub unique : (f : Format) (pIni pDef : List (List Float)) {r q : Strain} → IsStrain f pIni pDef r → IsStrain f pIni pDef q → r ≡ q
 unique f pIni pDef = only
 
-module _ (f : Format) (ini : Tri2) (def : Tri3) where
+module _ (f : Format) (pIni pDef : List (List Float)) {r : Strain} (is : IsStrain f pIni pDef r) where
   open Ops (ops f) using (zero)
 
   abbrev rest : Rest
-  rest = restOf f ini
+  rest = restOf f (tri2.cornersOf pIni)
 
-  abbrev values : Values
-  values = valuesOf f (rest .gd0) (edgesOf f def) (rest .«gu0_x» .v) (rest .«gu0_y» .v)
+  abbrev inputBad : Bool
+  inputBad = badInputOf (tri2.cornersOf pIni) (tri3.cornersOf pDef)
 
-  pub refused-3-exactly : wdwOf f ini def .number ≡ badInput ↔ badInputOf ini def ≡ true
+  abbrev divisorZero : Bool
+  divisorZero = zeroDivisorOf rest
+
+  abbrev answerBad : Bool
+  answerBad = let values = valuesOf f (rest .gd0) (edgesOf f (tri3.cornersOf pDef)) (rest .«gu0_x» .v) (rest .«gu0_y» .v) in badAnswerOf (values .w) (values .dw)
+
+  pub refused-3-exactly : r .number ≡ badInput ↔ inputBad ≡ true
   unfolding wdwOf strainOf
-  refused-3-exactly = refused-3 _ _ _
+  refused-3-exactly = rw is (refused-3 _ _ _)
 
-  pub refused-4-exactly : wdwOf f ini def .number ≡ zeroDivisor ↔ ((badInputOf ini def ≡ false) × (zeroDivisorOf rest ≡ true))
+  pub refused-4-exactly : r .number ≡ zeroDivisor ↔ ((inputBad ≡ false) × (divisorZero ≡ true))
   unfolding wdwOf strainOf
-  refused-4-exactly = refused-4 _ _ _
+  refused-4-exactly = rw is (refused-4 _ _ _)
 
-  pub refused-5-exactly : wdwOf f ini def .number ≡ badAnswer
-      ↔ ((badInputOf ini def ≡ false) × (zeroDivisorOf rest ≡ false) × (badAnswerOf (values .w) (values .dw) ≡ true))
+  pub refused-5-exactly : r .number ≡ badAnswer ↔ ((inputBad ≡ false) × (divisorZero ≡ false) × (answerBad ≡ true))
   unfolding wdwOf strainOf
-  refused-5-exactly = refused-5 _ _ _
+  refused-5-exactly = rw is (refused-5 _ _ _)
 
-  pub accepted-exactly : wdwOf f ini def .number ≡ accepted
-      ↔ ((badInputOf ini def ≡ false) × (zeroDivisorOf rest ≡ false) × (badAnswerOf (values .w) (values .dw) ≡ false))
+  pub accepted-exactly : r .number ≡ accepted ↔ ((inputBad ≡ false) × (divisorZero ≡ false) × (answerBad ≡ false))
   unfolding wdwOf strainOf
-  accepted-exactly = nothing-refused _ _ _
+  accepted-exactly = rw is (nothing-refused _ _ _)
 
   -- after a refusal every value is +0
-  pub refused-values : (wdwOf f ini def .number ≡ accepted → ⊥) → (wdwOf f ini def .w ≡ replicate 3 zero) × (wdwOf f ini def .dw ≡ replicate 27 zero)
+  pub refused-values : (r .number ≡ accepted → ⊥) → (r .w ≡ replicate 3 zero) × (r .dw ≡ replicate 27 zero)
   unfolding wdwOf strainOf
-  refused-values h = (rw (ne-eqb _ accepted h), rw (ne-eqb _ accepted h))
+  refused-values = rw is (λ h. (rw (ne-eqb _ accepted h), rw (ne-eqb _ accepted h)))

@@ -22,7 +22,7 @@ use Rattle.stvk_tri3.specs.Edges as edges
 use Rattle.stvk_tri3.specs.Edges.{edgesOf}
 use Rattle.stvk_tri3.specs.declared.Gd.{Gd}
 use Rattle.stvk_tri3.specs.declared.energy.Rest.{Rest}
-use Rattle.stvk_tri3.specs.declared.energy.Tensor.{Tensor}
+use Rattle.stvk_tri3.specs.declared.energy.Matrix3.{Matrix3}
 use Rattle.stvk_tri3.specs.declared.energy.State.{State}
 
 -- gd[0][idim] and gd[1][idim]
@@ -68,7 +68,7 @@ module _ (f : Format) where
   unfoldable pub gugu0Of : (gu0x gu0y : V3) → V3
   gugu0Of gu0x gu0y = record { x = dotOf f gu0x gu0x; y = dotOf f gu0y gu0y; z = dotOf f gu0y gu0x }
 
-  unfoldable pub elasticityTensorOf : (gugu0 : V3) (lambda myu : Float) → Tensor
+  unfoldable pub elasticityTensorOf : (gugu0 : V3) (lambda myu : Float) → Matrix3
   elasticityTensorOf gugu0 lambda myu = record {
     x = record {
       x = lambda ⊗ gugu0 .x ⊗ gugu0 .x ⊕ two ⊗ myu ⊗ (gugu0 .x ⊗ gugu0 .x);
@@ -88,7 +88,7 @@ module _ (f : Format) where
   }
 
   -- the 2nd Piola-Kirchhoff stress
-  unfoldable pub spkstressOf : (e : Tensor) (glstrain : V3) → V3
+  unfoldable pub spkstressOf : (e : Matrix3) (glstrain : V3) → V3
   spkstressOf e glstrain = record { x = dotOf f (e .x) glstrain; y = dotOf f (e .y) glstrain; z = dotOf f (e .z) glstrain }
 
   -- what the energy and its derivatives are made of
@@ -107,7 +107,7 @@ module _ (f : Format) where
   unfoldable pub dNdrOf : (ino : ℕ) → V2
   dNdrOf ino = cond (eqb ino 0) (record { x = neg one; y = neg one }) (cond (eqb ino 1) (record { x = one; y = zero }) (record { x = zero; y = one }))
 
-  -- dw[ino][idim]
+  -- dw[ino][idim]; gi is gd[0][idim] and gd[1][idim], ni is dNdr[ino], and gj, nj below are the same for jdim and jno
   unfoldable pub dwAtOf : (area0 : Float) (spkstress : V3) (gi ni : V2) → Float
   dwAtOf area0 spkstress gi ni =
       area0 ⊗ (spkstress .x ⊗ gi .x ⊗ ni .x ⊕ spkstress .z ⊗ gi .x ⊗ ni .y ⊕ spkstress .z ⊗ gi .y ⊗ ni .x ⊕ spkstress .y ⊗ gi .y ⊗ ni .y)
@@ -116,7 +116,7 @@ module _ (f : Format) where
   dwOf s = each 3 (λ ino. table 3 (λ idim. dwAtOf (s .rest .area0) (s .spkstress) (alongOf (s .gd) idim) (dNdrOf ino)))
 
   -- from +0, term by term
-  unfoldable pub dtmp0Of : (e : Tensor) (gi ni gj nj : V2) → Float
+  unfoldable pub dtmp0Of : (e : Matrix3) (gi ni gj nj : V2) → Float
   dtmp0Of e gi ni gj nj =
       zero
       ⊕ gi .x ⊗ ni .x ⊗ e .x .x ⊗ gj .x ⊗ nj .x
@@ -149,7 +149,7 @@ module _ (f : Format) where
   }
 
   -- the same for jno = 0, 1, 2
-  unfoldable pub rowsOf : State → (gi ni : V2) → Tensor
+  unfoldable pub rowsOf : State → (gi ni : V2) → Matrix3
   rowsOf s gi ni = record { x = rowOf s gi ni (dNdrOf 0); y = rowOf s gi ni (dNdrOf 1); z = rowOf s gi ni (dNdrOf 2) }
 
   -- a block of three rows; dtmp1 comes to its entries 0, 4 and 8
@@ -175,5 +175,5 @@ module _ (f : Format) where
       energyOf f (kernelNumber (badInputOf p0 p1 lambda myu) (zeroDivisorOf (s .rest)) (badAnswerOf w dw ddw)) w dw ddw
 
   -- THE statement of `wdwddw_`
-  abbrev pub IsEnergy : (p0 p1 : List (List Float)) (lambda myu : Float) (r : Energy) → Type 0
-  IsEnergy p0 p1 lambda myu r = r ≡ wdwddwOf (cornersOf p0) (cornersOf p1) lambda myu
+  abbrev pub IsStvk : (p0 p1 : List (List Float)) (lambda myu : Float) (r : Energy) → Type 0
+  IsStvk p0 p1 lambda myu r = r ≡ wdwddwOf (cornersOf p0) (cornersOf p1) lambda myu

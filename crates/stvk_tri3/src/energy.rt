@@ -24,8 +24,8 @@ pub(crate) struct Rest {
     pub gu0y: Divided,
 }
 
-// Three rows of three: elasticity_tensor[0][1] is x.y.
-pub(crate) struct Tensor {
+// Three rows: elasticity_tensor[0][1] is x.y.
+pub(crate) struct Matrix3 {
     pub x: V3,
     pub y: V3,
     pub z: V3,
@@ -36,7 +36,7 @@ pub(crate) struct State {
     pub rest: Rest,
     pub gd: Gd,
     pub glstrain: V3,
-    pub tensor: Tensor,
+    pub tensor: Matrix3,
     pub spkstress: V3,
 }
 
@@ -79,7 +79,7 @@ fn gugu0(gu0x: V3, gu0y: V3) -> V3
     }
 }
 
-fn elasticity_tensor(gugu0: V3, lambda: f64, myu: f64) -> Tensor
+fn elasticity_tensor(gugu0: V3, lambda: f64, myu: f64) -> Matrix3
     ensures { λ r. ⌜ r ≡ elasticityTensorOf binary64 gugu0 lambda myu ⌝ }
 {
     let x = V3 {
@@ -97,10 +97,10 @@ fn elasticity_tensor(gugu0: V3, lambda: f64, myu: f64) -> Tensor
         y: lambda * gugu0.z * gugu0.y + 2.0 * myu * (gugu0.z * gugu0.y),
         z: lambda * gugu0.z * gugu0.z + 1.0 * myu * (gugu0.x * gugu0.y + gugu0.z * gugu0.z),
     };
-    Tensor { x, y, z }
+    Matrix3 { x, y, z }
 }
 
-fn spkstress(e: Tensor, glstrain: V3) -> V3
+fn spkstress(e: Matrix3, glstrain: V3) -> V3
     ensures { λ r. ⌜ r ≡ spkstressOf binary64 e glstrain ⌝ }
 {
     V3 {
@@ -164,6 +164,7 @@ fn along(gd: Gd, idim: usize) -> V2
     }
 }
 
+// gi is gd[0][idim] and gd[1][idim], ni is dNdr[ino]; gj and nj, below, the same for jdim and jno.
 fn dw_at(area0: f64, spkstress: V3, gi: V2, ni: V2) -> f64
     ensures { λ r. ⌜ r ≡ dwAtOf binary64 area0 spkstress gi ni ⌝ }
 {
@@ -186,7 +187,7 @@ pub(crate) fn dw(s: State) -> [f64; 9]
     dw
 }
 
-fn dtmp0(e: Tensor, gi: V2, ni: V2, gj: V2, nj: V2) -> f64
+fn dtmp0(e: Matrix3, gi: V2, ni: V2, gj: V2, nj: V2) -> f64
     ensures { λ r. ⌜ r ≡ dtmp0Of binary64 e gi ni gj nj ⌝ }
 {
     let mut dtmp0 = 0.0;
@@ -233,17 +234,17 @@ fn row(s: State, gi: V2, ni: V2, nj: V2) -> V3
 
 // The same for jno = 0, 1, 2. Only the last factor of a term of dtmp0 depends on jno, and here it is known: the compiler forms the product of the others once, and
 // multiplies by neither 1 nor -1.
-fn rows(s: State, gi: V2, ni: V2) -> Tensor
+fn rows(s: State, gi: V2, ni: V2) -> Matrix3
     ensures { λ r. ⌜ r ≡ rowsOf binary64 s gi ni ⌝ }
 {
     let x = row(s, gi, ni, dndr(0));
     let y = row(s, gi, ni, dndr(1));
     let z = row(s, gi, ni, dndr(2));
-    Tensor { x, y, z }
+    Matrix3 { x, y, z }
 }
 
 // Three blocks from their rows for idim = 0, 1, 2; dtmp1 is added to a block's entries 0, 4 and 8.
-fn three_blocks(x: Tensor, y: Tensor, z: Tensor, dtmp1: V3) -> [f64; 27]
+fn three_blocks(x: Matrix3, y: Matrix3, z: Matrix3, dtmp1: V3) -> [f64; 27]
     ensures { λ r. ⌜ r ≡ (blockOf binary64 (x .x) (y .x) (z .x) (dtmp1 .x) ++ blockOf binary64 (x .y) (y .y) (z .y) (dtmp1 .y))
         ++ blockOf binary64 (x .z) (y .z) (z .z) (dtmp1 .z) ⌝ }
 {
@@ -279,7 +280,7 @@ fn three_blocks(x: Tensor, y: Tensor, z: Tensor, dtmp1: V3) -> [f64; 27]
 }
 
 // ddw[ino]: three blocks, for jno = 0, 1, 2.
-fn corner(s: State, ni: V2) -> [f64; 27]
+fn ddw_of_corner(s: State, ni: V2) -> [f64; 27]
     ensures { λ r. ⌜ r ≡ each 3 (λ jno. ddwAtOf binary64 s ni (dNdrOf binary64 jno)) ⌝ }
 {
     let x = rows(s, along(s.gd, 0), ni);
@@ -298,7 +299,7 @@ pub(crate) fn ddw(s: State) -> [f64; 81]
 {
     let mut ddw = [0.0; 81];
     for ino in 0..3usize {
-        let d = corner(s, dndr(ino));
+        let d = ddw_of_corner(s, dndr(ino));
         for k in 0..27usize {
             ddw[ino * 27 + k] = d[k];
         }

@@ -3,7 +3,7 @@ ghost use mathlib.Core.Path.{_≡_};
 ghost use lib.Ieee.{binary64};
 ghost use Rattle.stvk_tri3.specs.Edges.{edgesOf, glstrainOf};
 ghost use Rattle.stvk_tri3.specs.Strain.{IsStrain};
-ghost use Rattle.stvk_tri3.specs.Stvk.{IsEnergy};
+ghost use Rattle.stvk_tri3.specs.Stvk.{IsStvk};
 
 mod energy;
 mod strains;
@@ -67,7 +67,7 @@ pub fn wdw(p_ini: [[f64; 2]; 3], p_def: [[f64; 3]; 3]) -> Strain
 
 // The StVK energy of a sheet that has the corners p0 at rest and p1 deformed, with its gradient and Hessian by p1. No thickness enters.
 pub fn wdwddw_(p0: [[f64; 3]; 3], p1: [[f64; 3]; 3], lambda: f64, myu: f64) -> Energy
-    ensures { λ r. ⌜ IsEnergy binary64 p0 p1 lambda myu r ⌝ }
+    ensures { λ r. ⌜ IsStvk binary64 p0 p1 lambda myu r ⌝ }
 {
     let p0 = tri3::corners(p0);
     let p1 = tri3::corners(p1);

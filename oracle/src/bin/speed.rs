@@ -7,62 +7,50 @@ use std::io::Read;
 /// Words of a run: the routine, how many calls, 24 numbers.
 const RUN: usize = 26;
 
-const ROOT: u64 = 1;
-const BENDING: u64 = 2;
-const STRAIN: u64 = 3;
-const STVK: u64 = 4;
+/// By how much every number moves from one call to the next.
+const STEP: f64 = 1.0 / 1048576.0;
 
-/// The kth call moves one rest coordinate and one deformed one.
-fn step(k: u64) -> f64 {
-    k as f64 / 1048576.0
+type Numbers = [f64; 24];
+
+fn root(x: &Numbers, _: usize) -> f64 {
+    x[0].sqrt()
 }
 
-fn root(x: &[f64], k: u64) -> f64 {
-    (x[0] + step(k)).sqrt()
+fn space<const N: usize>(x: &[f64]) -> [[f64; 3]; N] {
+    std::array::from_fn(|i| [x[3 * i], x[3 * i + 1], x[3 * i + 2]])
 }
 
-fn bending(x: &[f64], k: u64) -> f64 {
-    let mut p_ini = [[0.0; 3]; 4];
-    let mut p_def = [[0.0; 3]; 4];
-    for i in 0..12 {
-        p_ini[i / 3][i % 3] = x[i];
-        p_def[i / 3][i % 3] = x[12 + i];
-    }
-    p_ini[0][0] += step(k);
-    p_def[0][0] += step(k);
-    let (w, dwdp) = quadratic_bending::wdw(&p_ini, &p_def);
-    let at = (k % 36) as usize;
+fn bending(x: &Numbers, k: usize) -> f64 {
+    let (w, dwdp) = quadratic_bending::wdw(&space(&x[..12]), &space(&x[12..]));
+    let at = k % 36;
     w[at % 3] + dwdp[at / 12][at / 3 % 4][at % 3]
 }
 
-fn strain(x: &[f64], k: u64) -> f64 {
-    let mut p_ini = [[0.0; 2]; 3];
-    let mut p_def = [[0.0; 3]; 3];
-    for i in 0..6 {
-        p_ini[i / 2][i % 2] = x[i];
-    }
-    for i in 0..9 {
-        p_def[i / 3][i % 3] = x[6 + i];
-    }
-    p_ini[0][0] += step(k);
-    p_def[0][0] += step(k);
-    let (w, dw) = stvk_tri3::wdw(&p_ini, &p_def);
-    let at = (k % 27) as usize;
+fn strain(x: &Numbers, k: usize) -> f64 {
+    let p_ini = [[x[0], x[1]], [x[2], x[3]], [x[4], x[5]]];
+    let (w, dw) = stvk_tri3::wdw(&p_ini, &space(&x[6..15]));
+    let at = k % 27;
     w[at % 3] + dw[at / 9][at / 3 % 3][at % 3]
 }
 
-fn stvk(x: &[f64], k: u64) -> f64 {
-    let mut p0 = [[0.0; 3]; 3];
-    let mut p1 = [[0.0; 3]; 3];
-    for i in 0..9 {
-        p0[i / 3][i % 3] = x[i];
-        p1[i / 3][i % 3] = x[9 + i];
-    }
-    p0[0][0] += step(k);
-    p1[0][0] += step(k);
-    let (w, dw, ddw) = stvk_tri3::wdwddw_(p0, p1, x[18], x[19]);
-    let at = (k % 81) as usize;
+fn stvk(x: &Numbers, k: usize) -> f64 {
+    let (w, dw, ddw) = stvk_tri3::wdwddw_(space(&x[..9]), space(&x[9..18]), x[18], x[19]);
+    let at = k % 81;
     w + dw[at / 3 % 3][at % 3] + ddw[at / 27][at / 9 % 3][at % 9]
+}
+
+fn nothing(_: &Numbers, _: usize) -> f64 {
+    0.0
+}
+
+fn sum(call: fn(&Numbers, usize) -> f64, count: u64, x: Numbers) -> f64 {
+    let mut s = 0.0;
+    let mut sum = 0.0;
+    for k in 0..count as usize {
+        sum += call(&x.map(|x| x + s), k);
+        s += STEP;
+    }
+    sum
 }
 
 fn main() {
@@ -76,14 +64,13 @@ fn main() {
         .collect();
     for run in words.chunks_exact(RUN) {
         let call = match run[0] {
-            ROOT => root,
-            BENDING => bending,
-            STRAIN => strain,
-            STVK => stvk,
-            kind => panic!("no routine {kind}"),
+            1 => root,
+            2 => bending,
+            3 => strain,
+            4 => stvk,
+            _ => nothing,
         };
-        let x: Vec<f64> = run[2..].iter().map(|w| f64::from_bits(*w)).collect();
-        let sum: f64 = (0..run[1]).fold(0.0, |sum, k| sum + call(&x, k));
-        println!("{:016x}", sum.to_bits());
+        let x = std::array::from_fn(|i| f64::from_bits(run[2 + i]));
+        println!("{:016x}", sum(call, run[1], x).to_bits());
     }
 }

@@ -10,6 +10,7 @@ sum-spec = tie.close (tie.spec
     (λ kind count x s₀ sum₀ k₀ s sum k. count - k)
     (λ c. omega arith)
     (λ c κs. tt)
+    (λ c κs. tt)
     (λ c. omega arith)
     (λ c. omega arith)
     (λ c. omega arith)

@@ -1,4 +1,4 @@
--- `next_numbers` is safe and ends: a turn writes below the last place.
+-- `next_numbers` is safe and ends: a turn writes below place 24.
 use Prim.Native.Nat.{_≤_, _-_}
 use native.Mathlib.Omega.{arith}
 use Rattle.replay.proofs.input.next_numbers.Statement.{statement}
