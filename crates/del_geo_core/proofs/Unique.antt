@@ -11,11 +11,13 @@ use Rattle.del_geo_core.specs.declared.tri2.Tri2.{Tri2}
 use Rattle.del_geo_core.specs.declared.tri3.Tri3.{Tri3}
 use Rattle.del_geo_core.specs.declared.tri3.NormalArea.{NormalArea}
 use Rattle.del_geo_core.specs.declared.curve_linear_coords.DualBasis.{DualBasis}
+use Rattle.del_geo_core.specs.declared.mat3_row_major.Matrix3.{Matrix3}
 use Rattle.del_geo_core.specs.Vec3.{dotOf, crossOf, subOf, scaleOf, normOf, overOf, unitOf, normalizeOf, isFiniteOf, pointOf}
 use Rattle.del_geo_core.specs.Tri2 as tri2
 use Rattle.del_geo_core.specs.Tri3 as tri3
 use Rattle.del_geo_core.specs.Edge.{lengthOf}
 use Rattle.del_geo_core.specs.CurveLinearCoords.{contravariantOf, inverseOf}
+use Rattle.del_geo_core.specs.Mat3RowMajor.{multVecOf}
 
 pub point : (a : List Float) {r q : V3} → r ≡ pointOf a → q ≡ pointOf a → r ≡ q
 point a = only
@@ -83,3 +85,6 @@ module _ (f : Format) where
 
   pub inverse : (g0 g1 g2 : V3) {r q : DualBasis} → r ≡ inverseOf f g0 g1 g2 → q ≡ inverseOf f g0 g1 g2 → r ≡ q
   inverse g0 g1 g2 = only
+
+  pub mult-vec : (m : Matrix3) (v : V3) {r q : V3} → r ≡ multVecOf f m v → q ≡ multVecOf f m v → r ≡ q
+  mult-vec m v = only

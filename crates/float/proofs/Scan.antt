@@ -1,4 +1,4 @@
--- A loop that tests a list from the front keeps this: what is left from here passes exactly when the whole list does.
+-- A loop that tests a list from the front, to its end, keeps this: what was seen so far and what is left from here pass exactly when the whole list does.
 use mathlib.Core.Path.{_≡_, refl, sym, _∙_}
 use mathlib.Core.Bool.{Bool, true, false, _&&_, false≢true, and-assoc, and-true}
 use mathlib.Core.List.{List, [], _∷_}
@@ -21,24 +21,17 @@ module _ {A : Type 0} (p : A → Bool) where
   unfolding every
   every-cons x xs = refl
 
-  pub every-done : (l : List A) (i : ℕ) → length l ≤ i → every p (drop i l) ≡ true
+  every-done : (l : List A) (i : ℕ) → length l ≤ i → every p (drop i l) ≡ true
   unfolding every
   every-done l i h = rw (drop-of-length-le l h)
 
-  -- a loop that goes to the end keeps ok && what is left
+  -- `ok`: what was seen so far passed
   pub every-step : (l : List A) (i : ℕ) (d : A) (ok b : Bool) → i < length l → b ≡ p (getD l i d)
       → (ok && b && every p (drop (i + 1) l)) ≡ (ok && every p (drop i l))
   every-step l i d ok b h e = rw (add-one, drop-cons l i d h, every-cons, e, and-assoc)
 
   pub every-end : (l : List A) (i : ℕ) (ok r : Bool) → length l ≤ i → (ok && every p (drop i l)) ≡ r → ok ≡ r
   every-end l i ok r h e = sym (and-true ok) ∙ rw (every-done l i h) at e
-
-  -- one that stops at the first failure keeps what is left
-  pub every-pass : (l : List A) (i : ℕ) (d : A) → i < length l → p (getD l i d) ≡ true → every p (drop (i + 1) l) ≡ every p (drop i l)
-  every-pass l i d h e = rw (add-one, drop-cons l i d h, every-cons, e)
-
-  pub every-fail : (l : List A) (i : ℕ) (d : A) → i < length l → p (getD l i d) ≡ false → every p (drop i l) ≡ false
-  every-fail l i d h e = rw (drop-cons l i d h, every-cons, e)
 
   pub every-at : (l : List A) (i : ℕ) (d : A) → every p l ≡ true → i < length l → p (getD l i d) ≡ true
   unfolding every

@@ -6,7 +6,7 @@ use Prim.Native.Nat.{ℕ}
 use lib.Ieee.{Float, Format, ofBits, toBits}
 use lib.Ieee.Scale.{finite}
 use Rattle.float.specs.Numbers.{isZero, bigEndian}
-use Rattle.float.specs.Lists.{allFinite}
+use Rattle.float.specs.Lists.{allFinite, cleared}
 
 -- the general law: every statement of the form r ≡ fOf .. is an instance
 pub only : {A : Type 0} {a r q : A} → r ≡ a → q ≡ a → r ≡ q
@@ -20,6 +20,9 @@ is-zero x = only
 
 pub all-finite : (xs : List Float) {r q : Bool} → r ≡ allFinite xs → q ≡ allFinite xs → r ≡ q
 all-finite xs = only
+
+pub clear : (f : Format) (xs : List Float) {r q : List Float} → r ≡ cleared f xs → q ≡ cleared f xs → r ≡ q
+clear f xs = only
 
 pub of-bytes : (bytes : List ℕ) {r q : ℕ} → r ≡ bigEndian bytes → q ≡ bigEndian bytes → r ≡ q
 of-bytes bytes = only

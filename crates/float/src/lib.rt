@@ -1,11 +1,11 @@
-// One number and lists of numbers: finite tests, and bits in and out.
+// One number and lists of numbers: finite tests, clearing, and bits in and out.
 ghost use mathlib.Core.Path.{_≡_};
 ghost use lib.Ieee.{binary64, ofBits, toBits};
 ghost use lib.Ieee.Scale.{finite};
 ghost use Prim.Native.Nat.{_<_, _^_};
 ghost use mathlib.Core.List.{[], _∷_};
 ghost use Rattle.float.specs.Numbers.{isZero, bigEndian};
-ghost use Rattle.float.specs.Lists.{allFinite};
+ghost use Rattle.float.specs.Lists.{allFinite, cleared};
 
 // The bits of the one NaN (01-scope 4.2).
 pub const NAN_WORD: u64 = 0x7ff8_0000_0000_0000;
@@ -34,6 +34,15 @@ pub fn all_finite(xs: &[f64]) -> bool
         ok = ok & is_finite(xs[i]);
     }
     ok
+}
+
+// Sets every number of the list to +0.
+pub fn clear(xs: &mut [f64])
+    ensures { λ _. ⌜ now (xs .exit) ≡ cleared binary64 (now (xs .entry)) ⌝ }
+{
+    for i in 0..xs.len() {
+        xs[i] = 0.0;
+    }
 }
 
 fn wide(b: u8) -> u64

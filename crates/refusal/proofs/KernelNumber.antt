@@ -1,18 +1,13 @@
 -- When a kernel gives which number, test by test: instances of the ladder's law.
 use mathlib.Core.Path.{_≡_, refl}
-use mathlib.Core.Bool.{Bool, true, false, false≢true, true≢false}
-use mathlib.Core.List.{List, [], _∷_}
+use mathlib.Core.Bool.{Bool, true, false}
+use mathlib.Core.List.{[], _∷_}
 use mathlib.Core.Logic.{_↔_}
 use Prim.Native.Nat.{ℕ}
 use borrow.Author.Tests.{eqb-false}
 use Rattle.float.specs.Lists.{every}
-use Rattle.refusal.specs.Refusal.{accepted, badInput, zeroDivisor, badAnswer, Row, _⇒_, noneOf, kernelNumber}
-use Rattle.refusal.proofs.Ladder.{exactly, accepted-exactly}
-
-none : (t : Bool) (n : ℕ) (rows : List Row) → noneOf ((t ⇒ n) ∷ rows) ≡ true ↔ ((t ≡ false) × (noneOf rows ≡ true))
-unfolding every
-none true n rows = ((λ e. absurd (false≢true e)), (λ h. absurd (true≢false (h .0))))
-none false n rows = ((λ e. (refl, e)), (λ h. h .1))
+use Rattle.refusal.specs.Refusal.{accepted, badInput, zeroDivisor, badAnswer, Row, _⇒_, kernelNumber}
+use Rattle.refusal.proofs.Ladder.{none, exactly, accepted-exactly}
 
 module _ (inputBad divisorZero answerBad : Bool) where
   abbrev number : ℕ

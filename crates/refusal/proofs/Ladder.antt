@@ -1,6 +1,6 @@
 -- A row's number is given exactly where its test holds and that of no earlier row does: by induction on the rows.
 use mathlib.Core.Path.{_≡_, refl, sym}
-use mathlib.Core.Bool.{Bool, true, false, not, cond, false≢true}
+use mathlib.Core.Bool.{Bool, true, false, not, cond, false≢true, true≢false}
 use mathlib.Core.List.{List, [], _∷_, _++_}
 use mathlib.Core.Logic.{_↔_}
 use Prim.Native.Nat.{ℕ}
@@ -48,3 +48,9 @@ unfolding firstOf every
 accepted-exactly [] a = ((λ e. refl), (λ e. refl))
 accepted-exactly ((true, k) ∷ rows) a = ((λ e. absurd (unequal k accepted (both _ _ a .0) e)), (λ e. absurd (false≢true e)))
 accepted-exactly ((false, k) ∷ rows) a = accepted-exactly rows (both (not (eqb k accepted)) _ a .1)
+
+-- no test of these rows holds: row by row
+pub none : (t : Bool) (n : ℕ) (rows : List Row) → noneOf ((t ⇒ n) ∷ rows) ≡ true ↔ ((t ≡ false) × (noneOf rows ≡ true))
+unfolding every
+none true n rows = ((λ e. absurd (false≢true e)), (λ h. absurd (true≢false (h .0))))
+none false n rows = ((λ e. (refl, e)), (λ h. h .1))

@@ -1,3 +1,4 @@
 pub mod Ladder
 pub mod KernelNumber
 pub mod Unique
+pub mod Panel

@@ -1,4 +1,4 @@
--- No second answer fits the statements of `first`, `kernel` and `answer_energy`: each is an equation with a definition.
+-- No second answer fits a statement of this crate: each is an equation with a definition.
 use mathlib.Core.Path.{_≡_}
 use mathlib.Core.Bool.{Bool, cond}
 use mathlib.Core.List.{List}
@@ -6,7 +6,8 @@ use Prim.Native.Nat.{ℕ}
 use lib.Ieee.{Float, Format}
 use Rattle.float.proofs.Unique.{only}
 use Rattle.refusal.specs.Refusal.{kernelNumber}
-use Rattle.refusal.specs.Answers.{energyOf}
+use Rattle.refusal.specs.Answers.{badEnergyOf, energyOf}
+use Rattle.refusal.specs.Panel.{withinLimits, namesBelow}
 use Rattle.refusal.specs.declared.Energy.{Energy}
 
 pub first : (test : Bool) (number later : ℕ) {r q : ℕ} → r ≡ cond test number later → q ≡ cond test number later → r ≡ q
@@ -16,6 +17,15 @@ pub kernel : (inputBad divisorZero answerBad : Bool) {r q : ℕ} → r ≡ kerne
     → r ≡ q
 kernel inputBad divisorZero answerBad = only
 
+pub bad-energy : (w : Float) (dw ddw : List Float) {r q : Bool} → r ≡ badEnergyOf w dw ddw → q ≡ badEnergyOf w dw ddw → r ≡ q
+bad-energy w dw ddw = only
+
 pub answer-energy : (f : Format) (number : ℕ) (w : Float) (dw ddw : List Float) {r q : Energy} → r ≡ energyOf f number w dw ddw
     → q ≡ energyOf f number w dw ddw → r ≡ q
 answer-energy f number w dw ddw = only
+
+pub within-limits : (vertices names : ℕ) {r q : Bool} → r ≡ withinLimits vertices names → q ≡ withinLimits vertices names → r ≡ q
+within-limits vertices names = only
+
+pub names-below : (count : ℕ) (names : List ℕ) {r q : Bool} → r ≡ namesBelow count names → q ≡ namesBelow count names → r ≡ q
+names-below count names = only

@@ -1,13 +1,19 @@
 -- Answer records that several kernels share: the values where nothing is refused, +0 throughout after a refusal (01-scope 2.1).
-use mathlib.Core.Bool.{cond}
+use mathlib.Core.Bool.{Bool, cond, not, _&&_}
 use mathlib.Core.List.{List}
 use Prim.Native.Nat.{ℕ}
 use lib.Dec.{eqb}
 use lib.Ieee.{Float, Format}
+use lib.Ieee.Scale.{finite}
 use lib.ListN.{replicate}
+use Rattle.float.specs.Lists.{allFinite}
 use Rattle.float.specs.Ops.{Ops, ops}
 use Rattle.refusal.specs.Refusal.{accepted}
 use Rattle.refusal.specs.declared.Energy.{Energy}
+
+-- a number of a finished energy is not finite
+unfoldable pub badEnergyOf : (w : Float) (dw ddw : List Float) → Bool
+badEnergyOf w dw ddw = not (finite w && allFinite dw && allFinite ddw)
 
 module _ (f : Format) where
   open Ops (ops f) using (zero)

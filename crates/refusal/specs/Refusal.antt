@@ -12,11 +12,11 @@ accepted = 0
 abbrev pub badLength : ℕ
 badLength = 1
 
--- a triangle names a vertex that isn't there
+-- a triangle names a vertex that does not exist
 abbrev pub badName : ℕ
 badName = 2
 
--- an input number that the routine looks at is NaN or infinite
+-- a number that the routine reads is a NaN or an infinity
 abbrev pub badInput : ℕ
 badInput = 3
 
@@ -24,7 +24,7 @@ badInput = 3
 abbrev pub zeroDivisor : ℕ
 zeroDivisor = 4
 
--- a number of the finished answer is NaN or infinite
+-- the finished answer has a NaN or an infinity in it
 abbrev pub badAnswer : ℕ
 badAnswer = 5
 

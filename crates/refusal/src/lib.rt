@@ -1,21 +1,27 @@
-// The refusal numbers of 01-scope 2.1, the ladder that picks one, and the answers that several kernels share.
+// The refusal numbers of 01-scope 2.1, the ladder that picks one, the answers that several kernels share, and the tests of a panel's lists.
 ghost use mathlib.Core.Path.{_≡_};
 ghost use mathlib.Core.Bool.{cond};
 ghost use lib.Ieee.{binary64};
 ghost use Rattle.refusal.specs.Refusal.{kernelNumber};
-ghost use Rattle.refusal.specs.Answers.{energyOf};
+ghost use Rattle.refusal.specs.Answers.{badEnergyOf, energyOf};
+ghost use Rattle.refusal.specs.Panel.{withinLimits, namesBelow};
 
 pub const ACCEPTED: u32 = 0;
 // A length or a limit is wrong.
 pub const BAD_LENGTH: u32 = 1;
-// A triangle names a vertex that isn't there.
+// A triangle names a vertex that does not exist.
 pub const BAD_NAME: u32 = 2;
-// An input number that the routine looks at is NaN or infinite.
+// A number that the routine reads is a NaN or an infinity.
 pub const BAD_INPUT: u32 = 3;
 // A listed divisor is zero, of either sign.
 pub const ZERO_DIVISOR: u32 = 4;
-// A number of the finished answer is NaN or infinite.
+// The finished answer has a NaN or an infinity in it.
 pub const BAD_ANSWER: u32 = 5;
+
+// The most vertices of a panel (01-scope 2.3).
+pub const MAX_VERTICES: usize = 65_536;
+// The most triangles.
+pub const MAX_TRIANGLES: usize = 131_072;
 
 // An energy with its gradient and its Hessian, flat: dw at ino * 3 + idof, ddw at (ino * 3 + jno) * 9 + idof * 3 + jdof.
 pub struct Energy {
@@ -42,6 +48,13 @@ pub fn kernel(bad_input: bool, zero_divisor: bool, bad_answer: bool) -> u32
     first(bad_input, BAD_INPUT, later)
 }
 
+// Whether a number of a finished energy is not finite.
+pub fn bad_energy(w: f64, dw: [f64; 9], ddw: [f64; 81]) -> bool
+    ensures { λ r. ⌜ r ≡ badEnergyOf w dw ddw ⌝ }
+{
+    !(float::is_finite(w) & float::all_finite(&dw) & float::all_finite(&ddw))
+}
+
 // The values where nothing is refused, else +0 throughout.
 pub fn answer_energy(number: u32, w: f64, dw: [f64; 9], ddw: [f64; 81]) -> Energy
     ensures { λ r. ⌜ r ≡ energyOf binary64 number w dw ddw ⌝ }
@@ -56,4 +69,22 @@ pub fn answer_energy(number: u32, w: f64, dw: [f64; 9], ddw: [f64; 81]) -> Energ
             ddw: [0.0; 81],
         }
     }
+}
+
+// Whether a panel of so many vertices and so many names, three for each triangle, is within the limits.
+pub fn within_limits(vertices: usize, names: usize) -> bool
+    ensures { λ r. ⌜ r ≡ withinLimits vertices names ⌝ }
+{
+    (vertices <= MAX_VERTICES) & (names % 3 == 0) & (names / 3 <= MAX_TRIANGLES)
+}
+
+// Whether each name is that of one of so many vertices.
+pub fn names_below(names: &[usize], count: usize) -> bool
+    ensures { λ r. ⌜ r ≡ namesBelow count (now (names .entry)) ⌝ }
+{
+    let mut ok = true;
+    for i in 0..names.len() {
+        ok = ok & (names[i] < count);
+    }
+    ok
 }

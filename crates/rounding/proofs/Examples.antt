@@ -7,10 +7,10 @@ use lib.Dec.{lit≤, lit<, le→leb}
 use lib.IntN.{pos, negsuc}
 use lib.Count.{trailingZeros}
 use lib.Ieee.{Float, fin, binary64, size, span, climb, odd, units, round, sum, add, mul, div, fits, ofBits, ofFields}
-use Rattle.float.specs.Lists.{fold}
+use Rattle.float.specs.Lists.{fold, total}
 use Rattle.rounding.specs.Exact.{_⊞_, _⊠_, sizeOf, signed, mag, sign, value}
 use Rattle.rounding.specs.Error.{Within, Rounded, Chain}
-use Rattle.rounding.specs.Sums.{sumOf, exactSum, total}
+use Rattle.rounding.specs.Sums.{sumOf, exactSum}
 use Rattle.rounding.specs.Dyadic.{Dyad}
 use Rattle.rounding.proofs.Rounding.{add-rounded}
 use Rattle.rounding.proofs.Chain.{near-exact, div-whole, mul-chain}

@@ -12,11 +12,11 @@ use lib.Ieee.{Float, Format, binary32, binary64, prec, fits}
 use lib.Ieee.Fits.{add-fits}
 use lib.Ieee.Scale.{finite}
 use Rattle.float.specs.Ops.{Ops, ops, literal}
-use Rattle.float.specs.Lists.{fold}
+use Rattle.float.specs.Lists.{fold, total}
 use Rattle.float.proofs.Bits.{zero-bits}
 use Rattle.rounding.specs.Exact.{Num, _⊞_, signed, mag, sign, value, Number}
 use Rattle.rounding.specs.Error.{Within, Near}
-use Rattle.rounding.specs.Sums.{All, sumOf, exactSum, total, halve, halves}
+use Rattle.rounding.specs.Sums.{All, sumOf, exactSum, halve, halves}
 use Rattle.rounding.proofs.Num.{size-times}
 use Rattle.rounding.proofs.Value.{size-value}
 use Rattle.rounding.proofs.Operations.{add-finite}

@@ -1,10 +1,9 @@
--- Sums: exact ones of natural and of signed numbers, and rounded ones of floats, from left to right and by halves.
+-- Sums: exact ones of natural and of signed numbers, and rounded ones of floats by halves. Those from left to right are `total` of float.
 use mathlib.Core.List.{List, [], _∷_}
 use Prim.Native.Nat.{ℕ, zero, suc, _+_, _/_}
 use lib.ListN.{length, take, drop}
 use lib.Ieee.{Float, Format}
 use Rattle.float.specs.Ops.{Ops, ops}
-use Rattle.float.specs.Lists.{fold}
 use Rattle.rounding.specs.Exact.{Num}
 
 -- P holds of each element
@@ -32,10 +31,6 @@ module _ (f : Format) where
   open Ops (ops f) using (_⊕_, zero as nought)
 
   infixl 75 _⊕_
-  -- the floats g a added from left to right, from +0
-  abbrev pub total : {A : Type 0} → (A → Float) → List A → Float
-  total g l = fold (λ s a. s ⊕ g a) nought l
-
   -- No values give +0, one value is itself, else the first half (rounded down) and the rest are each summed this way and added.
   -- n bounds the depth: as many levels as there are values suffice.
   unfoldable pub halve : ℕ → List Float → Float

@@ -9,11 +9,11 @@ use borrow.Author.Tests.{ne-eqb}
 use Rattle.float.specs.Ops.{Ops, ops}
 use Rattle.float.proofs.Unique.{only}
 use Rattle.refusal.specs.Refusal.{accepted, badInput, zeroDivisor, badAnswer}
-use Rattle.refusal.specs.Answers.{energyOf}
+use Rattle.refusal.specs.Answers.{badEnergyOf, energyOf}
 use Rattle.refusal.specs.declared.Energy.{Energy}
 use Rattle.refusal.proofs.KernelNumber.{nothing-refused, refused-3, refused-4, refused-5}
 use Rattle.del_geo_core.specs.Tri3.{cornersOf}
-use Rattle.stvk_tri3.specs.Stvk.{restOf, stateOf, wOf, dwOf, ddwOf, badInputOf, zeroDivisorOf, badAnswerOf, wdwddwOf, IsStvk}
+use Rattle.stvk_tri3.specs.Stvk.{restOf, stateOf, wOf, dwOf, ddwOf, badInputOf, zeroDivisorOf, wdwddwOf, IsStvk}
 
 -- no second answer fits
 pub unique : (f : Format) (p0 p1 : List (List Float)) (lambda myu : Float) {r q : Energy} → IsStvk f p0 p1 lambda myu r
@@ -30,7 +30,7 @@ module _ (f : Format) (p0 p1 : List (List Float)) (lambda myu : Float) {r : Ener
   divisorZero = zeroDivisorOf (restOf f (cornersOf p0))
 
   abbrev answerBad : Bool
-  answerBad = let s = stateOf f (cornersOf p0) (cornersOf p1) lambda myu in badAnswerOf (wOf f s) (dwOf f s) (ddwOf f s)
+  answerBad = let s = stateOf f (cornersOf p0) (cornersOf p1) lambda myu in badEnergyOf (wOf f s) (dwOf f s) (ddwOf f s)
 
   pub refused-3-exactly : r .number ≡ badInput ↔ inputBad ≡ true
   unfolding wdwddwOf energyOf

@@ -6,15 +6,17 @@ use Prim.Native.Nat.{ℕ}
 use lib.Dec.{eqb}
 use lib.Ieee.{Float, Format, neg}
 use lib.Ieee.Scale.{finite}
-use Rattle.float.specs.Lists.{allFinite, each, table}
+use Rattle.float.specs.Lists.{each, table}
 use Rattle.float.specs.Numbers.{isZero}
 use Rattle.float.specs.Ops.{Ops, ops}
 use Rattle.refusal.specs.Refusal.{kernelNumber}
-use Rattle.refusal.specs.Answers.{energyOf}
+use Rattle.refusal.specs.Answers.{badEnergyOf, energyOf}
 use Rattle.refusal.specs.declared.Energy.{Energy}
 use Rattle.del_geo_core.specs.CurveLinearCoords.{contravariantOf}
+use Rattle.del_geo_core.specs.Mat3RowMajor.{multVecOf}
 use Rattle.del_geo_core.specs.Tri3.{cornersOf, isFiniteOf, unitNormalAreaOf}
 use Rattle.del_geo_core.specs.Vec3.{dotOf}
+use Rattle.del_geo_core.specs.declared.mat3_row_major.Matrix3.{Matrix3}
 use Rattle.del_geo_core.specs.declared.tri2.V2.{V2}
 use Rattle.del_geo_core.specs.declared.tri3.Tri3.{Tri3}
 use Rattle.del_geo_core.specs.declared.vec3.V3.{V3}
@@ -22,7 +24,6 @@ use Rattle.stvk_tri3.specs.Edges as edges
 use Rattle.stvk_tri3.specs.Edges.{edgesOf}
 use Rattle.stvk_tri3.specs.declared.Gd.{Gd}
 use Rattle.stvk_tri3.specs.declared.energy.Rest.{Rest}
-use Rattle.stvk_tri3.specs.declared.energy.Matrix3.{Matrix3}
 use Rattle.stvk_tri3.specs.declared.energy.State.{State}
 
 -- gd[0][idim] and gd[1][idim]
@@ -37,10 +38,6 @@ badInputOf p0 p1 lambda myu = not (isFiniteOf p0 && isFiniteOf p1 && finite lamb
 -- a divisor is zero: the rest normal's norm, or one of the two dots (01-scope 2.1: 4)
 unfoldable pub zeroDivisorOf : Rest → Bool
 zeroDivisorOf rest = isZero (rest .gdz .by) || isZero (rest .gu0x .by) || isZero (rest .gu0y .by)
-
--- a number of the finished answer is not finite (01-scope 2.1: 5)
-unfoldable pub badAnswerOf : (w : Float) (dw ddw : List Float) → Bool
-badAnswerOf w dw ddw = not (finite w && allFinite dw && allFinite ddw)
 
 module _ (f : Format) where
   open Ops (ops f) using (_⊕_, _⊗_, zero, half, one, two)
@@ -87,18 +84,14 @@ module _ (f : Format) where
     };
   }
 
-  -- the 2nd Piola-Kirchhoff stress
-  unfoldable pub spkstressOf : (e : Matrix3) (glstrain : V3) → V3
-  spkstressOf e glstrain = record { x = dotOf f (e .x) glstrain; y = dotOf f (e .y) glstrain; z = dotOf f (e .z) glstrain }
-
-  -- what the energy and its derivatives are made of
+  -- what the energy and its derivatives are made of; spkstress is the 2nd Piola-Kirchhoff stress
   unfoldable pub stateOf : (p0 p1 : Tri3) (lambda myu : Float) → State
   stateOf p0 p1 lambda myu =
       let rest = restOf p0 in
       let gd = edgesOf f p1 in
       let glstrain = glstrainOf (rest .gd0) gd in
       let tensor = elasticityTensorOf (gugu0Of (rest .gu0x .v) (rest .gu0y .v)) lambda myu in
-      record { rest = rest; gd = gd; glstrain = glstrain; tensor = tensor; spkstress = spkstressOf tensor glstrain }
+      record { rest = rest; gd = gd; glstrain = glstrain; tensor = tensor; spkstress = multVecOf f tensor glstrain }
 
   unfoldable pub wOf : State → Float
   wOf s = half ⊗ s .rest .area0 ⊗ dotOf f (s .glstrain) (s .spkstress)
@@ -172,7 +165,7 @@ module _ (f : Format) where
       let w = wOf s in
       let dw = dwOf s in
       let ddw = ddwOf s in
-      energyOf f (kernelNumber (badInputOf p0 p1 lambda myu) (zeroDivisorOf (s .rest)) (badAnswerOf w dw ddw)) w dw ddw
+      energyOf f (kernelNumber (badInputOf p0 p1 lambda myu) (zeroDivisorOf (s .rest)) (badEnergyOf w dw ddw)) w dw ddw
 
   -- THE statement of `wdwddw_`
   abbrev pub IsStvk : (p0 p1 : List (List Float)) (lambda myu : Float) (r : Energy) → Type 0

@@ -3,11 +3,13 @@ ghost use mathlib.Core.Path.{_≡_};
 ghost use mathlib.Core.List.{_++_};
 ghost use lib.Ieee.{binary64};
 ghost use Rattle.float.specs.Lists.{each};
-ghost use Rattle.stvk_tri3.specs.Stvk.{restOf, glstrainOf, gugu0Of, elasticityTensorOf, spkstressOf, stateOf, wOf, dNdrOf, alongOf, dwAtOf, dwOf};
-ghost use Rattle.stvk_tri3.specs.Stvk.{dtmp0Of, dtmp1Of, rowOf, rowsOf, blockOf, ddwAtOf, ddwOf, badInputOf, zeroDivisorOf, badAnswerOf};
+ghost use Rattle.stvk_tri3.specs.Stvk.{restOf, glstrainOf, gugu0Of, elasticityTensorOf, stateOf, wOf, dNdrOf, alongOf, dwAtOf, dwOf};
+ghost use Rattle.stvk_tri3.specs.Stvk.{dtmp0Of, dtmp1Of, rowOf, rowsOf, blockOf, ddwAtOf, ddwOf, badInputOf, zeroDivisorOf};
 use crate::Gd;
 use crate::edges;
 use del_geo_core::curve_linear_coords;
+use del_geo_core::mat3_row_major;
+use del_geo_core::mat3_row_major::Matrix3;
 use del_geo_core::tri2::V2;
 use del_geo_core::tri3;
 use del_geo_core::tri3::Tri3;
@@ -22,13 +24,6 @@ pub(crate) struct Rest {
     pub area0: f64,
     pub gu0x: Divided,
     pub gu0y: Divided,
-}
-
-// Three rows: elasticity_tensor[0][1] is x.y.
-pub(crate) struct Matrix3 {
-    pub x: V3,
-    pub y: V3,
-    pub z: V3,
 }
 
 // What the energy and its derivatives are made of.
@@ -100,16 +95,6 @@ fn elasticity_tensor(gugu0: V3, lambda: f64, myu: f64) -> Matrix3
     Matrix3 { x, y, z }
 }
 
-fn spkstress(e: Matrix3, glstrain: V3) -> V3
-    ensures { λ r. ⌜ r ≡ spkstressOf binary64 e glstrain ⌝ }
-{
-    V3 {
-        x: vec3::dot(e.x, glstrain),
-        y: vec3::dot(e.y, glstrain),
-        z: vec3::dot(e.z, glstrain),
-    }
-}
-
 pub(crate) fn state_of(p0: Tri3, p1: Tri3, lambda: f64, myu: f64) -> State
     ensures { λ r. ⌜ r ≡ stateOf binary64 p0 p1 lambda myu ⌝ }
 {
@@ -117,7 +102,7 @@ pub(crate) fn state_of(p0: Tri3, p1: Tri3, lambda: f64, myu: f64) -> State
     let gd = edges(p1);
     let glstrain = glstrain(rest.gd0, gd);
     let tensor = elasticity_tensor(gugu0(rest.gu0x.v, rest.gu0y.v), lambda, myu);
-    let spkstress = spkstress(tensor, glstrain);
+    let spkstress = mat3_row_major::mult_vec(tensor, glstrain);
     State {
         rest,
         gd,
@@ -317,10 +302,4 @@ pub(crate) fn zero_divisor(rest: Rest) -> bool
     ensures { λ r. ⌜ r ≡ zeroDivisorOf rest ⌝ }
 {
     float::is_zero(rest.gdz.by) | float::is_zero(rest.gu0x.by) | float::is_zero(rest.gu0y.by)
-}
-
-pub(crate) fn bad_answer(w: f64, dw: [f64; 9], ddw: [f64; 81]) -> bool
-    ensures { λ r. ⌜ r ≡ badAnswerOf w dw ddw ⌝ }
-{
-    !(float::is_finite(w) & float::all_finite(&dw) & float::all_finite(&ddw))
 }

@@ -77,7 +77,7 @@ pub fn wdwddw_(p0: [[f64; 3]; 3], p1: [[f64; 3]; 3], lambda: f64, myu: f64) -> E
     let ddw = energy::ddw(s);
     let bad_input = energy::bad_input(p0, p1, lambda, myu);
     let zero_divisor = energy::zero_divisor(s.rest);
-    let bad_answer = energy::bad_answer(w, dw, ddw);
+    let bad_answer = refusal::bad_energy(w, dw, ddw);
     let number = refusal::kernel(bad_input, zero_divisor, bad_answer);
     refusal::answer_energy(number, w, dw, ddw)
 }
