@@ -1,0 +1,2 @@
+pub mod FiveLists
+pub mod Unique

@@ -1,0 +1,4 @@
+pub mod Bending
+pub mod Shear
+pub mod Plate
+pub mod Parts
