@@ -1,0 +1,4 @@
+pub mod PlateAnswer
+pub mod MassesAnswer
+pub mod Places
+pub mod Vertex

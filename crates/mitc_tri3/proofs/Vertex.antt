@@ -1,0 +1,63 @@
+-- Each place of the finished buffer holds its vertex's shares, added from +0 in the list's order: kept by every triangle.
+use mathlib.Core.Path.{_≡_, refl, _∙_}
+use mathlib.Core.Bool.{Bool, true, false}
+use mathlib.Core.List.{List, [], _++_}
+use Prim.Native.Nat.{ℕ, _+_, _*_, _<_}
+use native.Mathlib.Omega.{arith}
+use lib.Dec.{eqb, ltb}
+use lib.Ieee.{Float, Format, nan}
+use lib.ListN.{length, getD-replicate, length-replicate}
+use borrow.Author.Tests.{ltb-true, not-false}
+use Rattle.float.specs.Lists.{_!_, cleared, fold, total}
+use Rattle.float.specs.Ops.{Ops, ops}
+use Rattle.float.proofs.Fold.{fold-append, threes-keep}
+use Rattle.refusal.specs.Refusal.{accepted}
+use Rattle.del_geo_core.specs.declared.tri2.Tri2.{Tri2}
+use Rattle.mitc_tri3.specs.Masses.{verticesOf, cornersAt, massOf, addMasses, addAll, massesOf, IsMasses}
+use Rattle.mitc_tri3.specs.Vertex.{when, namedBy, trianglesOf, shareOf}
+use Rattle.mitc_tri3.proofs.Places.{addIf, triangle-at, triangle-length}
+use Rattle.mitc_tri3.proofs.MassesAnswer.{sized, accepted-exactly, accepted-masses}
+
+module _ (f : Format) (thick rho : Float) (v k : ℕ) (k3 : k < 3) (vtx2xy : List Float) where
+  open Ops (ops f) using (_⊕_)
+
+  infixl 75 _⊕_
+  once : (test : Bool) (p : Tri2) (held : Float)
+      → fold (λ s q. s ⊕ shareOf f k thick rho q) held (when test p) ≡ addIf f test (shareOf f k thick rho p) held
+  unfolding fold
+  once true p held = refl
+  once false p held = refl
+
+  named : (l : List Tri2) (i0 i1 i2 : ℕ) → let s = shareOf f k thick rho (cornersAt vtx2xy i0 i1 i2) in
+      total f (shareOf f k thick rho) (l ++ namedBy v vtx2xy i0 i1 i2) ≡ addIf f (eqb i2 v) s (addIf f (eqb i1 v) s (addIf f (eqb i0 v) s (total f (shareOf f k thick rho) l)))
+  unfolding namedBy
+  named l i0 i1 i2 = simp (fold-append, once)
+
+  -- of the buffer and the corners so far
+  Keeps : List Float → List Tri2 → Type 0
+  Keeps mass l = (length mass ≡ verticesOf vtx2xy * 3) × (mass ! (v * 3 + k) ≡ total f (shareOf f k thick rho) l)
+
+  turn : (mass : List Float) (l : List Tri2) (i0 i1 i2 : ℕ) → ltb i0 (verticesOf vtx2xy) ≡ true → ltb i1 (verticesOf vtx2xy) ≡ true
+      → ltb i2 (verticesOf vtx2xy) ≡ true → Keeps mass l → Keeps (addMasses f vtx2xy thick rho mass i0 i1 i2) (l ++ namedBy v vtx2xy i0 i1 i2)
+  unfolding addMasses Keeps
+  turn mass l i0 i1 i2 e0 e1 e2 (size, held) =
+      let m = massOf f thick rho (cornersAt vtx2xy i0 i1 i2) in
+      let h0 = ltb-true i0 (verticesOf vtx2xy) e0 in
+      let h1 = ltb-true i1 (verticesOf vtx2xy) e1 in
+      let h2 = ltb-true i2 (verticesOf vtx2xy) e2 in (
+        triangle-length f mass i0 i1 i2 m m m ∙ size,
+        triangle-at f mass i0 i1 i2 m m m (omega arith) (omega arith) (omega arith) v k k3 ∙ rw (held, named l i0 i1 i2),
+      )
+
+-- THE theorem for bounds on a vertex's masses: what stands at place k of vertex v after an accepted panel
+pub vertex-holds : (f : Format) (tri2vtx : List ℕ) (vtx2xy : List Float) (thick rho : Float) (before : List Float) {r : ℕ} {after : List Float}
+    → IsMasses f tri2vtx vtx2xy thick rho before r after → r ≡ accepted → (v k : ℕ) → v < verticesOf vtx2xy → k < 3
+    → after ! (v * 3 + k) ≡ total f (shareOf f k thick rho) (trianglesOf v tri2vtx vtx2xy)
+unfolding massesOf addAll trianglesOf Keeps fold
+vertex-holds f tri2vtx vtx2xy thick rho before is e v k h k3 =
+    let tests = accepted-exactly f tri2vtx vtx2xy thick rho before is .0 e in
+    let size = sized _ _ _ (tests .0) .1 in
+    let keeps = Keeps f thick rho v k k3 vtx2xy in
+    let start : keeps (cleared f before) [] = (length-replicate _ (ops f .zero) ∙ size, getD-replicate (length before) (v * 3 + k) (ops f .zero) nan (omega arith)) in
+    rw (accepted-masses f tri2vtx vtx2xy thick rho before is e)
+    (threes-keep (addMasses f vtx2xy thick rho) _ (λ i. ltb i (verticesOf vtx2xy)) keeps (turn f thick rho v k k3 vtx2xy) tri2vtx _ [] (not-false _ (tests .1)) start .1)

@@ -1,0 +1,88 @@
+// Ported from mitc_tri3.rs: the energy of a plate triangle (its numbers are crate `plate`'s), and the lumped masses of a panel.
+ghost use mathlib.Core.Path.{_≡_};
+ghost use lib.Ieee.{binary64};
+ghost use Rattle.mitc_tri3.specs.Masses.{IsMasses};
+ghost use Rattle.mitc_tri3.specs.Plate.{badInputOf, zeroDivisorOf, IsPlate};
+
+mod masses;
+
+use del_geo_core::curve_linear_coords::DualBasis;
+use del_geo_core::tri2;
+use del_geo_core::tri2::Tri2;
+use del_geo_core::tri3;
+use del_geo_core::tri3::Tri3;
+use refusal::ACCEPTED;
+use refusal::BAD_ANSWER;
+use refusal::BAD_INPUT;
+use refusal::BAD_LENGTH;
+use refusal::BAD_NAME;
+use refusal::Energy;
+
+fn bad_input(p: Tri2, u: Tri3, thk: f64, lambda: f64, myu: f64) -> bool
+    ensures { λ r. ⌜ r ≡ badInputOf p u thk lambda myu ⌝ }
+{
+    !(tri2::is_finite(p)
+        & tri3::is_finite(u)
+        & float::is_finite(thk)
+        & float::is_finite(lambda)
+        & float::is_finite(myu))
+}
+
+fn zero_divisor(gu: DualBasis) -> bool
+    ensures { λ r. ⌜ r ≡ zeroDivisorOf gu ⌝ }
+{
+    float::is_zero(gu.gu0.by) | float::is_zero(gu.gu1.by) | float::is_zero(gu.gu2.by)
+}
+
+// The energy, bending and shear, of a plate of thickness thk over the plane corners p, with its gradient and Hessian by u: at each corner the displacement in z and the
+// rotations about x and y.
+pub fn w_dw_ddw_plate_bending(
+    p: [[f64; 2]; 3],
+    u: [[f64; 3]; 3],
+    thk: f64,
+    lambda: f64,
+    myu: f64,
+) -> Energy
+    ensures { λ r. ⌜ IsPlate binary64 p u thk lambda myu r ⌝ }
+{
+    let p = tri2::corners(p);
+    let u = tri3::corners(u);
+    let s = plate::state_of(p, u, thk, lambda, myu);
+    let w = plate::w(s);
+    let dw = plate::dw(s);
+    let ddw = plate::ddw(s);
+    let bad_input = bad_input(p, u, thk, lambda, myu);
+    let zero_divisor = zero_divisor(s.gu);
+    let bad_answer = refusal::bad_energy(w, dw, ddw);
+    let number = refusal::kernel(bad_input, zero_divisor, bad_answer);
+    refusal::answer_energy(number, w, dw, ddw)
+}
+
+// The lumped masses of a panel of plates, three for each vertex: for its translation and for its two rotations. Nothing is written before every name is looked at.
+pub fn mass_lumped_plate_bending(
+    tri2vtx: &[usize],
+    vtx2xy: &[f64],
+    thick: f64,
+    rho: f64,
+    vtx2mass: &mut [f64],
+) -> u32
+    ensures { λ r. ⌜ IsMasses binary64 (now («tri2vtx» .entry)) (now («vtx2xy» .entry)) thick rho (now («vtx2mass» .entry)) r (now («vtx2mass» .exit)) ⌝ }
+{
+    let vertices = vtx2xy.len() / 2;
+    if masses::bad_length(vertices, tri2vtx.len(), vtx2mass.len()) {
+        return BAD_LENGTH;
+    }
+    if !refusal::names_below(tri2vtx, vertices) {
+        return BAD_NAME;
+    }
+    if masses::bad_input(tri2vtx, vtx2xy, thick, rho) {
+        return BAD_INPUT;
+    }
+    float::clear(vtx2mass);
+    masses::add_all(tri2vtx, vtx2xy, thick, rho, vtx2mass);
+    if !float::all_finite(vtx2mass) {
+        float::clear(vtx2mass);
+        return BAD_ANSWER;
+    }
+    ACCEPTED
+}
