@@ -291,6 +291,11 @@ fn plate() -> Vec<Vec<f64>> {
             }
         }
     }
+    for place in 6..18 {
+        let mut refused_twice = [square.to_vec(), lifted.to_vec(), vec![0.0, 0.0, 1.0]].concat();
+        refused_twice[place] = f64::NAN;
+        cases.push(refused_twice);
+    }
     cases
 }
 

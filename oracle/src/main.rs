@@ -7,6 +7,7 @@ mod helpers;
 mod kernel_cases;
 mod kernel_samples;
 mod kernels;
+mod limits;
 mod mass_cases;
 mod masses;
 mod numbers;
@@ -28,8 +29,11 @@ const USAGE: &str = "usage:
   oracle generate KINDS COUNT SEED    COUNT fresh records of each kind
   oracle answer                       records in, answer lines out
   oracle compare EXPECTED ACTUAL      two files of answer lines
-  oracle runs KINDS COUNT             runs of COUNT calls for `speed`, kinds 2 to 4 on the original files'
-                                      own test inputs, 1 on 2, any other for calls of nothing
+  oracle runs KINDS COUNT             runs of COUNT calls for `speed`, kinds 2 to 5 on the original files'
+                                      own test inputs, 1 on 2, 9 for calls of nothing
+  oracle panel TRIANGLES COUNT        a run of COUNT calls of masses on a grid of so many triangles
+  oracle panel TRIANGLES COUNT nan    the same with a vertex that is not named and has no finite number
+  oracle limits                       the lines of `limits`
 KINDS is a list such as 1,9 or the word all.";
 
 fn main() -> ExitCode {
@@ -68,6 +72,18 @@ fn run(arguments: &[&str]) -> Result<ExitCode, String> {
             let kinds = parsed_kinds(kinds)?;
             let runs = kinds.into_iter().map(|kind| run_of(kind, count));
             write_records(runs.collect(), &[])
+        }
+        ["panel", triangles, count] => {
+            let run = mass_cases::run_of(parsed(triangles)?, parsed(count)?, &[]);
+            write_records(vec![run], &[])
+        }
+        ["panel", triangles, count, "nan"] => {
+            let run = mass_cases::run_of(parsed(triangles)?, parsed(count)?, &[f64::NAN; 2]);
+            write_records(vec![run], &[])
+        }
+        ["limits"] => {
+            print!("{}", limits::lines());
+            Ok(ExitCode::SUCCESS)
         }
         ["compare", expected, actual] => compare_files(expected, actual),
         _ => Err(USAGE.to_string()),
@@ -113,7 +129,9 @@ fn generated(kind: u64, random: &mut Random) -> Record {
 fn run_of(kind: u64, count: u64) -> Record {
     let mut inputs = match kind {
         record::ROOT => vec![2.0],
-        record::BENDING | record::STRAIN | record::STVK => kernel_samples::original(kind),
+        record::BENDING | record::STRAIN | record::STVK | record::PLATE => {
+            kernel_samples::original(kind)
+        }
         _ => Vec::new(),
     };
     inputs.resize(24, 0.0);

@@ -6,6 +6,24 @@ use crate::record::{words_of, Record, MASSES};
 
 const DRAWN: usize = 420;
 
+/// How many vertices and triangles a drawn panel has, less than these.
+#[derive(Clone, Copy)]
+struct Size {
+    vertices: u64,
+    triangles: u64,
+}
+
+const SMALL: Size = Size {
+    vertices: 9,
+    triangles: 7,
+};
+
+/// As large as a record may be: lists of up to 4,096 entries.
+const LARGE: Size = Size {
+    vertices: 1366,
+    triangles: 1366,
+};
+
 /// A panel as lent to the routine, the mass buffer on entry included.
 #[derive(Clone)]
 struct Panel {
@@ -46,17 +64,26 @@ impl Panel {
     }
 }
 
+/// One in ten is drawn large.
 pub fn generated(random: &mut Random) -> Record {
-    let mut panel = tame(random);
+    let size = if random.percent(10) { LARGE } else { SMALL };
+    drawn(random, size)
+}
+
+fn drawn(random: &mut Random, size: Size) -> Record {
+    let mut panel = tame(random, size);
     if random.percent(30) {
         disturb(random, &mut panel);
     }
     panel.record()
 }
 
-fn tame(random: &mut Random) -> Panel {
-    let vertices = random.below(8) + u64::from(random.percent(90));
-    let triangles = if vertices == 0 { 0 } else { random.below(7) };
+fn tame(random: &mut Random, size: Size) -> Panel {
+    let vertices = random.below(size.vertices - 1) + u64::from(random.percent(90));
+    let triangles = match vertices {
+        0 => 0,
+        _ => random.below(size.triangles),
+    };
     let count = vertices as usize * 2 + usize::from(random.percent(20));
     let names: Vec<u64> = (0..3 * triangles).map(|_| random.below(vertices)).collect();
     let mut numbers = match random.below(5) {
@@ -119,13 +146,42 @@ fn far_names(vertices: u64) -> [u64; 9] {
     ]
 }
 
+/// A run of `count` calls for `speed`, on the first `triangles` triangles of a
+/// grid with 256 vertices a row (one at a row's end joins two rows), after
+/// vertices that are not named.
+pub fn run_of(triangles: u64, count: u64, unnamed: &[f64]) -> Record {
+    const ROW: u64 = 256;
+    let vertices = triangles / 2 + ROW + 1;
+    let grid = (0..vertices).flat_map(|v| [(v % ROW) as f64 * 0.7, (v / ROW) as f64 * 1.1]);
+    let coordinates: Vec<f64> = unnamed.iter().copied().chain(grid).collect();
+    let first = unnamed.len() as u64 / 2;
+    let corners = |triangle: u64| {
+        let v = first + triangle / 2;
+        match triangle % 2 {
+            0 => [v, v + 1, v + ROW],
+            _ => [v + 1, v + ROW + 1, v + ROW],
+        }
+    };
+    let names: Vec<u64> = (0..triangles).flat_map(corners).collect();
+    let words = [
+        vec![count, coordinates.len() as u64, names.len() as u64],
+        words_of(&[0.3, 1.7]),
+        words_of(&coordinates),
+        names,
+    ];
+    Record {
+        kind: MASSES,
+        words: words.concat(),
+    }
+}
+
 const POINTS: [f64; 8] = [0.0, 0.0, 6.0, 0.0, 0.0, 6.0, 6.0, 6.0];
 
 pub fn sample() -> Vec<Record> {
     let mut random = Random::of(MASSES);
     let panels = [examples(), lengths(), far(), not_finite(), at_edges()].concat();
     let mut records: Vec<Record> = panels.iter().map(Panel::record).collect();
-    records.extend((0..DRAWN).map(|_| generated(&mut random)));
+    records.extend((0..DRAWN).map(|_| drawn(&mut random, SMALL)));
     records
 }
 

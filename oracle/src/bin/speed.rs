@@ -1,11 +1,10 @@
 //! Calls a routine of the original files many times, so that the instructions of
 //! one call can be counted. Runs and lines are those of `crates/speed`.
 
-use del_fem_cpu::{quadratic_bending, stvk_tri3};
+use del_fem_cpu::{mitc_tri3, quadratic_bending, stvk_tri3};
 use std::io::Read;
 
-/// Words of a run: the routine, how many calls, 24 numbers.
-const RUN: usize = 26;
+const MASSES: u64 = 6;
 
 /// By how much every number moves from one call to the next.
 const STEP: f64 = 1.0 / 1048576.0;
@@ -39,6 +38,19 @@ fn stvk(x: &Numbers, k: usize) -> f64 {
     w + dw[at / 3 % 3][at % 3] + ddw[at / 27][at / 9 % 3][at % 9]
 }
 
+fn plate(x: &Numbers, k: usize) -> f64 {
+    let p = [[x[0], x[1]], [x[2], x[3]], [x[4], x[5]]];
+    let (w, dw, ddw) = mitc_tri3::w_dw_ddw_plate_bending(
+        &[&p[0], &p[1], &p[2]],
+        &space(&x[6..15]),
+        x[15],
+        x[16],
+        x[17],
+    );
+    let at = k % 81;
+    w + dw[at / 3 % 3][at % 3] + ddw[at / 27][at / 9 % 3][at % 9]
+}
+
 fn nothing(_: &Numbers, _: usize) -> f64 {
     0.0
 }
@@ -53,24 +65,56 @@ fn sum(call: fn(&Numbers, usize) -> f64, count: u64, x: Numbers) -> f64 {
     sum
 }
 
+/// Calls on a panel, the thickness moved from one to the next.
+fn masses(count: u64, tri2vtx: &[usize], vtx2xy: &[f64], thick: f64, rho: f64) -> f64 {
+    let mut vtx2mass = vec![0.0; vtx2xy.len() / 2 * 3];
+    let mut s = 0.0;
+    let mut sum = 0.0;
+    for _ in 0..count {
+        mitc_tri3::mass_lumped_plate_bending(tri2vtx, vtx2xy, thick + s, rho, &mut vtx2mass);
+        sum += vtx2mass.last().copied().unwrap_or(0.0);
+        s += STEP;
+    }
+    sum
+}
+
+fn kernel(kind: u64, count: u64, words: &mut impl Iterator<Item = u64>) -> f64 {
+    let call = match kind {
+        1 => root,
+        2 => bending,
+        3 => strain,
+        4 => stvk,
+        5 => plate,
+        _ => nothing,
+    };
+    let x = std::array::from_fn(|_| f64::from_bits(words.next().expect("a number")));
+    sum(call, count, x)
+}
+
+fn panel(count: u64, words: &mut impl Iterator<Item = u64>) -> f64 {
+    let mut next = || words.next().expect("a word");
+    let (coordinates, names) = (next(), next());
+    let [thick, rho] = [next(), next()].map(f64::from_bits);
+    let vtx2xy: Vec<f64> = (0..coordinates).map(|_| f64::from_bits(next())).collect();
+    let tri2vtx: Vec<usize> = (0..names).map(|_| next() as usize).collect();
+    masses(count, &tri2vtx, &vtx2xy, thick, rho)
+}
+
 fn main() {
     let mut bytes = Vec::new();
     std::io::stdin()
         .read_to_end(&mut bytes)
         .expect("standard input");
-    let words: Vec<u64> = bytes
+    let mut words = bytes
         .chunks_exact(8)
-        .map(|b| u64::from_be_bytes(b.try_into().expect("eight bytes")))
-        .collect();
-    for run in words.chunks_exact(RUN) {
-        let call = match run[0] {
-            1 => root,
-            2 => bending,
-            3 => strain,
-            4 => stvk,
-            _ => nothing,
+        .map(|b| u64::from_be_bytes(b.try_into().expect("eight bytes")));
+    while let Some(kind) = words.next() {
+        let count = words.next().expect("how many calls");
+        let sum = if kind == MASSES {
+            panel(count, &mut words)
+        } else {
+            kernel(kind, count, &mut words)
         };
-        let x = std::array::from_fn(|i| f64::from_bits(run[2 + i]));
-        println!("{:016x}", sum(call, run[1], x).to_bits());
+        println!("{:016x}", sum.to_bits());
     }
 }
