@@ -15,6 +15,12 @@ struct Number {
     x: f64,
 }
 
+// A list's length or a name; likewise.
+pub(crate) struct Whole {
+    pub ok: bool,
+    pub n: usize,
+}
+
 // Numbers from the front of the array, +0 behind them; not ok where the input ended before the last of them.
 pub(crate) struct Numbers {
     pub ok: bool,
@@ -42,6 +48,42 @@ fn next_number() -> Number {
         Next::End => Number { ok: false, x: 0.0 },
         Next::Cut => Number { ok: false, x: 0.0 },
     }
+}
+
+fn index(w: u64) -> usize {
+    w as usize
+}
+
+pub(crate) fn next_whole() -> Whole {
+    match next_word() {
+        Next::Word(w) => Whole {
+            ok: true,
+            n: index(w),
+        },
+        Next::End => Whole { ok: false, n: 0 },
+        Next::Cut => Whole { ok: false, n: 0 },
+    }
+}
+
+// Whether the input had a word for every place.
+pub(crate) fn fill_names(names: &mut [usize]) -> bool {
+    let mut ok = true;
+    for i in 0..names.len() {
+        let read = next_whole();
+        names[i] = read.n;
+        ok = ok & read.ok;
+    }
+    ok
+}
+
+pub(crate) fn fill_numbers(xs: &mut [f64]) -> bool {
+    let mut ok = true;
+    for i in 0..xs.len() {
+        let read = next_number();
+        xs[i] = read.x;
+        ok = ok & read.ok;
+    }
+    ok
 }
 
 // The next count numbers, at most 24.

@@ -1,16 +1,18 @@
 // The kernels by their numbers (docs/REPLAY.md): how many numbers each takes, and its answer.
 use crate::input;
 use crate::output;
+use refusal::Energy;
 
 pub(crate) fn is_known(kind: u64) -> bool {
-    (2 <= kind) & (kind <= 4)
+    (2 <= kind) & (kind <= 5)
 }
 
 pub(crate) fn inputs(kind: u64) -> usize {
     match kind {
         2 => 24,
         3 => 15,
-        _ => 20,
+        4 => 20,
+        _ => 18,
     }
 }
 
@@ -28,19 +30,34 @@ fn put_strain(x: [[f64; 3]; 8]) {
     output::put_all(&answer.dw);
 }
 
-fn put_stvk(x: [[f64; 3]; 8]) {
-    let lame = x[6];
-    let answer = stvk_tri3::wdwddw_([x[0], x[1], x[2]], [x[3], x[4], x[5]], lame[0], lame[1]);
+fn put_energy(answer: Energy) {
     output::start_line(answer.number as u64);
     output::put(answer.w);
     output::put_all(&answer.dw);
     output::put_all(&answer.ddw);
 }
 
+fn put_stvk(x: [[f64; 3]; 8]) {
+    let lame = x[6];
+    put_energy(stvk_tri3::wdwddw_([x[0], x[1], x[2]], [x[3], x[4], x[5]], lame[0], lame[1]));
+}
+
+fn put_plate(x: [[f64; 3]; 8]) {
+    let sheet = x[5];
+    put_energy(mitc_tri3::w_dw_ddw_plate_bending(
+        input::plane(x),
+        [x[2], x[3], x[4]],
+        sheet[0],
+        sheet[1],
+        sheet[2],
+    ));
+}
+
 pub(crate) fn answer(kind: u64, x: [[f64; 3]; 8]) {
     match kind {
         2 => put_bending(x),
         3 => put_strain(x),
-        _ => put_stvk(x),
+        4 => put_stvk(x),
+        _ => put_plate(x),
     }
 }

@@ -3,6 +3,7 @@
 mod helpers;
 mod input;
 mod kernels;
+mod masses;
 mod output;
 
 use input::Next;
@@ -15,6 +16,8 @@ enum Outcome {
 }
 
 const ROOT: u64 = 1;
+
+const MASSES: u64 = 6;
 
 const HELPER: u64 = 9;
 
@@ -60,6 +63,14 @@ fn replay_kernel(kind: u64) -> Outcome {
     Outcome::Unreadable
 }
 
+fn replay_masses() -> Outcome {
+    if masses::is_answered() {
+        Outcome::Answered
+    } else {
+        Outcome::Unreadable
+    }
+}
+
 fn replay_one() -> Outcome {
     match input::next_word() {
         Next::Word(kind) => {
@@ -67,6 +78,8 @@ fn replay_one() -> Outcome {
                 replay_root()
             } else if kind == HELPER {
                 replay_helper()
+            } else if kind == MASSES {
+                replay_masses()
             } else if kernels::is_known(kind) {
                 replay_kernel(kind)
             } else {

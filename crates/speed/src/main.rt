@@ -1,28 +1,15 @@
 // Calls a routine many times, so that the instructions of one call can be counted (docs/SPEED.md). Standard input holds runs of big-endian 64-bit words: the routine's
-// number of docs/REPLAY.md (any other: nothing is called), how many calls, and 24 numbers by their bits, its inputs first. A line for each run: the bits of the sum of
-// what the calls gave.
-use libc::STDIN_FILENO;
+// number of docs/REPLAY.md (any other: nothing is called), how many calls, and 24 numbers by their bits, its inputs first; for masses in place of these the lengths of the
+// two lists, thickness, density, the coordinates and the names. A line for each run: the bits of the sum of what the calls gave.
+mod input;
+mod masses;
+
 use libc::STDOUT_FILENO;
 
-// 0 where the input has ended.
-fn next_word() -> u64 {
-    let mut b = [0u8; 8];
-    if io::read_full(STDIN_FILENO, &mut b) < 8 {
-        return 0;
-    }
-    float::of_bytes(b[0], b[1], b[2], b[3], b[4], b[5], b[6], b[7])
-}
-
-fn next_numbers() -> [[f64; 3]; 8] {
-    let mut x = [[0.0; 3]; 8];
-    for i in 0..24 {
-        x[i / 3][i % 3] = float::of_word(next_word());
-    }
-    x
-}
+const MASSES: u64 = 6;
 
 // By how much every number moves from one call to the next, so that no call can use what another computed: 2^-20.
-const STEP: f64 = 0.00000095367431640625;
+pub(crate) const STEP: f64 = 0.00000095367431640625;
 
 fn moved_row(a: [f64; 3], s: f64) -> [f64; 3] {
     [a[0] + s, a[1] + s, a[2] + s]
@@ -54,9 +41,13 @@ fn bending(x: [[f64; 3]; 8], k: u64) -> f64 {
     w[at % 3] + dwdp[at]
 }
 
+// The first six numbers as three plane points.
+fn plane(x: [[f64; 3]; 8]) -> [[f64; 2]; 3] {
+    [[x[0][0], x[0][1]], [x[0][2], x[1][0]], [x[1][1], x[1][2]]]
+}
+
 fn strain(x: [[f64; 3]; 8], k: u64) -> f64 {
-    let p_ini = [[x[0][0], x[0][1]], [x[0][2], x[1][0]], [x[1][1], x[1][2]]];
-    let answer = stvk_tri3::wdw(p_ini, [x[2], x[3], x[4]]);
+    let answer = stvk_tri3::wdw(plane(x), [x[2], x[3], x[4]]);
     let w = answer.w;
     let dw = answer.dw;
     let at = (k % 27) as usize;
@@ -72,12 +63,28 @@ fn stvk(x: [[f64; 3]; 8], k: u64) -> f64 {
     answer.w + dw[at % 9] + ddw[at]
 }
 
+fn plate(x: [[f64; 3]; 8], k: u64) -> f64 {
+    let sheet = x[5];
+    let answer = mitc_tri3::w_dw_ddw_plate_bending(
+        plane(x),
+        [x[2], x[3], x[4]],
+        sheet[0],
+        sheet[1],
+        sheet[2],
+    );
+    let dw = answer.dw;
+    let ddw = answer.ddw;
+    let at = (k % 81) as usize;
+    answer.w + dw[at % 9] + ddw[at]
+}
+
 fn call(kind: u64, x: [[f64; 3]; 8], k: u64) -> f64 {
     match kind {
         1 => root(x),
         2 => bending(x, k),
         3 => strain(x, k),
         4 => stvk(x, k),
+        5 => plate(x, k),
         _ => 0.0,
     }
 }
@@ -94,13 +101,17 @@ fn sum(kind: u64, count: u64, x: [[f64; 3]; 8]) -> f64 {
 
 // Whether there was a run to make.
 fn run() -> bool {
-    let kind = next_word();
+    let kind = input::next_word();
     if kind == 0 {
         return false;
     }
-    let count = next_word();
-    let x = next_numbers();
-    io::print_hex(STDOUT_FILENO, float::to_word(sum(kind, count, x)), 16);
+    let count = input::next_word();
+    let sum = if kind == MASSES {
+        masses::sum(count)
+    } else {
+        sum(kind, count, input::next_numbers())
+    };
+    io::print_hex(STDOUT_FILENO, float::to_word(sum), 16);
     io::write_all(STDOUT_FILENO, b"\n");
     true
 }
