@@ -79,11 +79,14 @@ fn panel(coordinates: usize, names: usize, places: usize, last: usize)
 }
 
 fn main() {
+    // At every limit, without and with a left-over number.
     panel(131_072, 393_216, 196_608, 65_535);
     panel(131_073, 393_216, 196_608, 65_535);
+    // A vertex more, a triangle more; a name too many, a place too many.
     panel(131_074, 393_216, 196_611, 65_535);
     panel(131_072, 393_219, 196_608, 65_535);
     panel(131_072, 393_217, 196_608, 65_535);
     panel(131_072, 393_216, 196_609, 65_535);
+    // The last name one past the last vertex.
     panel(131_072, 393_216, 196_608, 65_536);
 }

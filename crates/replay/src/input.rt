@@ -50,6 +50,7 @@ fn next_number() -> Number {
     }
 }
 
+// On its own, for the cast of a parameter needs no proof.
 fn index(w: u64) -> usize {
     w as usize
 }

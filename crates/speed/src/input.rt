@@ -9,6 +9,7 @@ pub(crate) fn next_word() -> u64 {
     float::of_bytes(b[0], b[1], b[2], b[3], b[4], b[5], b[6], b[7])
 }
 
+// On its own, for the cast of a parameter needs no proof.
 fn index(w: u64) -> usize {
     w as usize
 }
