@@ -1,17 +1,16 @@
 -- What `w_dw_ddw_plate_bending` answers, in the scope's words: one answer fits, and each number is given exactly where its test holds and that of no smaller one does.
 use mathlib.Core.Path.{_≡_}
-use mathlib.Core.Bool.{Bool, true, false}
+use mathlib.Core.Bool.{Bool}
 use mathlib.Core.List.{List}
-use mathlib.Core.Logic.{_↔_}
 use lib.Ieee.{Float, Format}
 use lib.ListN.{replicate}
 use borrow.Author.Tests.{ne-eqb}
 use Rattle.float.specs.Ops.{Ops, ops}
 use Rattle.float.proofs.Unique.{only}
-use Rattle.refusal.specs.Refusal.{accepted, badInput, zeroDivisor, badAnswer}
+use Rattle.refusal.specs.Refusal.{accepted, KernelExactly}
 use Rattle.refusal.specs.Answers.{badEnergyOf, energyOf}
 use Rattle.refusal.specs.declared.Energy.{Energy}
-use Rattle.refusal.proofs.KernelNumber.{nothing-refused, refused-3, refused-4, refused-5}
+use Rattle.refusal.proofs.KernelNumber.{kernel-exactly}
 use Rattle.del_geo_core.specs.Tri2 as tri2
 use Rattle.del_geo_core.specs.Tri3 as tri3
 use Rattle.plate.specs.Plate.{guOf, stateOf, wOf, dwOf, ddwOf}
@@ -34,21 +33,9 @@ module _ (f : Format) (p u : List (List Float)) (thk lambda myu : Float) {r : En
   abbrev answerBad : Bool
   answerBad = let s = stateOf f (tri2.cornersOf p) (tri3.cornersOf u) thk lambda myu in badEnergyOf (wOf f s) (dwOf f s) (ddwOf f s)
 
-  pub refused-3-exactly : r .number ≡ badInput ↔ inputBad ≡ true
-  unfolding wDwDdwPlateBendingOf energyOf
-  refused-3-exactly = rw is (refused-3 _ _ _)
-
-  pub refused-4-exactly : r .number ≡ zeroDivisor ↔ ((inputBad ≡ false) × (divisorZero ≡ true))
+  pub numbers-exactly : KernelExactly (r .number) inputBad divisorZero answerBad
   unfolding wDwDdwPlateBendingOf energyOf stateOf
-  refused-4-exactly = rw is (refused-4 _ _ _)
-
-  pub refused-5-exactly : r .number ≡ badAnswer ↔ ((inputBad ≡ false) × (divisorZero ≡ false) × (answerBad ≡ true))
-  unfolding wDwDdwPlateBendingOf energyOf stateOf
-  refused-5-exactly = rw is (refused-5 _ _ _)
-
-  pub accepted-exactly : r .number ≡ accepted ↔ ((inputBad ≡ false) × (divisorZero ≡ false) × (answerBad ≡ false))
-  unfolding wDwDdwPlateBendingOf energyOf stateOf
-  accepted-exactly = rw is (nothing-refused _ _ _)
+  numbers-exactly = rw is (kernel-exactly _ _ _)
 
   -- after a refusal every value is +0
   pub refused-values : (r .number ≡ accepted → ⊥) → (r .w ≡ zero) × (r .dw ≡ replicate 9 zero) × (r .ddw ≡ replicate 81 zero)

@@ -1,15 +1,14 @@
 -- What `wdw` answers, in the scope's words: one answer fits, and each number is given exactly where its test holds and that of no smaller one does.
 use mathlib.Core.Path.{_≡_}
-use mathlib.Core.Bool.{Bool, true, false}
+use mathlib.Core.Bool.{Bool}
 use mathlib.Core.List.{List}
-use mathlib.Core.Logic.{_↔_}
 use lib.Ieee.{Float, Format}
 use lib.ListN.{replicate}
 use borrow.Author.Tests.{ne-eqb}
 use Rattle.float.specs.Ops.{Ops, ops}
 use Rattle.float.proofs.Unique.{only}
-use Rattle.refusal.specs.Refusal.{accepted, badInput, zeroDivisor, badAnswer}
-use Rattle.refusal.proofs.KernelNumber.{nothing-refused, refused-3, refused-4, refused-5}
+use Rattle.refusal.specs.Refusal.{accepted, KernelExactly}
+use Rattle.refusal.proofs.KernelNumber.{kernel-exactly}
 use Rattle.quadratic_bending.specs.declared.Divisors.{Divisors}
 use Rattle.quadratic_bending.specs.declared.Bending.{Bending}
 use Rattle.quadratic_bending.specs.Bending.{cornersOf, badInputOf, zeroDivisorOf, badAnswerOf, divisorsOf, kOf, wOf, dwdpOf, bendingOf, wdwOf, IsBending}
@@ -36,21 +35,9 @@ module _ (f : Format) (pIni pDef : List (List Float)) {r : Bending} (is : IsBend
   abbrev answerBad : Bool
   answerBad = badAnswerOf (wOf f k (cornersOf pDef)) (dwdpOf f k)
 
-  pub refused-3-exactly : r .number ≡ badInput ↔ inputBad ≡ true
+  pub numbers-exactly : KernelExactly (r .number) inputBad divisorZero answerBad
   unfolding wdwOf bendingOf
-  refused-3-exactly = rw is (refused-3 _ _ _)
-
-  pub refused-4-exactly : r .number ≡ zeroDivisor ↔ ((inputBad ≡ false) × (divisorZero ≡ true))
-  unfolding wdwOf bendingOf
-  refused-4-exactly = rw is (refused-4 _ _ _)
-
-  pub refused-5-exactly : r .number ≡ badAnswer ↔ ((inputBad ≡ false) × (divisorZero ≡ false) × (answerBad ≡ true))
-  unfolding wdwOf bendingOf
-  refused-5-exactly = rw is (refused-5 _ _ _)
-
-  pub accepted-exactly : r .number ≡ accepted ↔ ((inputBad ≡ false) × (divisorZero ≡ false) × (answerBad ≡ false))
-  unfolding wdwOf bendingOf
-  accepted-exactly = rw is (nothing-refused _ _ _)
+  numbers-exactly = rw is (kernel-exactly _ _ _)
 
   -- after a refusal every value is +0
   pub refused-values : (r .number ≡ accepted → ⊥) → (r .w ≡ replicate 3 zero) × (r .dwdp ≡ replicate 36 zero)

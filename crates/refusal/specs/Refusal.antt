@@ -1,6 +1,8 @@
 -- The refusal numbers by name, and the ladder that picks one (01-scope 2.1).
-use mathlib.Core.Bool.{Bool, not, cond}
+use mathlib.Core.Path.{_≡_}
+use mathlib.Core.Bool.{Bool, true, false, not, cond}
 use mathlib.Core.List.{List, [], _∷_}
+use mathlib.Core.Logic.{_↔_}
 use Prim.Native.Nat.{ℕ}
 use lib.Dec.{eqb}
 use Rattle.float.specs.Lists.{every}
@@ -44,6 +46,13 @@ firstOf (row ∷ rows) = cond (row .0) (row .1) (firstOf rows)
 -- a kernel's ladder: a number that it looks at is not finite, one of its divisors is zero, a number of its finished answer is not finite
 unfoldable pub kernelNumber : (inputBad divisorZero answerBad : Bool) → ℕ
 kernelNumber inputBad divisorZero answerBad = firstOf (inputBad ⇒ badInput ∷ divisorZero ⇒ zeroDivisor ∷ answerBad ⇒ badAnswer ∷ [])
+
+-- each of a kernel's numbers is given exactly where its test holds and that of no smaller one does
+pub record KernelExactly (number : ℕ) (inputBad divisorZero answerBad : Bool) : Type 0 where
+  pub refused-3-exactly : number ≡ badInput ↔ inputBad ≡ true
+  pub refused-4-exactly : number ≡ zeroDivisor ↔ ((inputBad ≡ false) × (divisorZero ≡ true))
+  pub refused-5-exactly : number ≡ badAnswer ↔ ((inputBad ≡ false) × (divisorZero ≡ false) × (answerBad ≡ true))
+  pub accepted-exactly : number ≡ accepted ↔ ((inputBad ≡ false) × (divisorZero ≡ false) × (answerBad ≡ false))
 
 -- no test of these rows holds
 abbrev pub noneOf : List Row → Bool
