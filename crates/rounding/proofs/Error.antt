@@ -125,6 +125,17 @@ module _ {P c K S : ℕ} {x y : Num} where
           count (P - suc c) (gap J z x) (gap K x y) (sizeOf x) (gap (J * K) z y) (omega arith) (w .within) (rw r at (e .error)) sized (gap-through J K z x y)
       go (no h) = let r : P - suc c ≡ 0 = omega (arith, lt-of-not-le h) in rw r (omega arith)
 
+  -- K x is at most twice S
+  pub err-twice : 0 < P → 2 * c ≤ P → Err P c K x y S → K * sizeOf x ≤ 2 * S
+  err-twice P+ small e = go (gap K x y) (e .error) (gap-left K x y) (e .bounded)
+    where
+      go : (g : ℕ) {Y : ℕ} → g * (P - c) ≤ c * S → K * sizeOf x ≤ Y + g → Y ≤ S → K * sizeOf x ≤ 2 * S
+      go g h l b =
+          let q : c ≤ P - c = omega arith in
+          let q+ : 0 < P - c = omega arith in
+          let i : g ≤ S = le-of-mul-le-mul-right (omega (arith, mul-le-mul-right S q)) q+ in
+          omega arith
+
   -- ---- THE law of what c roundings come to
   pub err-within : c * (c + 1) ≤ P → Err P c K x y S → Within P (suc c) K x y S
   err-within small e =

@@ -6,5 +6,7 @@ pub mod Rounding
 pub mod Error
 pub mod Chain
 pub mod Sums
+pub mod Finite
+pub mod ExactSums
 pub mod Dyadic
 pub mod Examples

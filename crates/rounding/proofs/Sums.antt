@@ -51,12 +51,12 @@ sum-split g (suc i) [] = refl
 sum-split g (suc i) (a ∷ l) = omega (arith, sum-split g i l)
 
 -- ---- +0 is a number, and nothing
-zero-number : (f : Format) → Number f (literal f 0 0)
+pub zero-number : (f : Format) → Number f (literal f 0 0)
 unfolding fits
 zero-number binary32 = rw (zero-bits binary32) (record { fit = tt; fine = tt })
 zero-number binary64 = rw (zero-bits binary64) (record { fit = tt; fine = tt })
 
-zero-value : (f : Format) → value f (literal f 0 0) ≡ signed false 0
+pub zero-value : (f : Format) → value f (literal f 0 0) ≡ signed false 0
 unfolding value mag sign
 zero-value binary32 = rw (zero-bits binary32)
 zero-value binary64 = rw (zero-bits binary64)

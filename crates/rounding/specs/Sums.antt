@@ -1,6 +1,6 @@
 -- Sums: exact ones of natural and of signed numbers, and rounded ones of floats by halves. Those from left to right are `total` of float.
 use mathlib.Core.List.{List, [], _∷_}
-use Prim.Native.Nat.{ℕ, zero, suc, _+_, _/_}
+use Prim.Native.Nat.{ℕ, zero, suc, _+_, _/_, max}
 use lib.ListN.{length, take, drop}
 use lib.Ieee.{Float, Format}
 use Rattle.float.specs.Ops.{Ops, ops}
@@ -26,6 +26,11 @@ sumTo g (suc n) = sumTo g n + g n
 
 abbrev pub exactSumTo : (ℕ → Num) → ℕ → Num
 exactSumTo y n = record { plus = sumTo (λ i. y i .plus) n; minus = sumTo (λ i. y i .minus) n }
+
+-- the greatest of them, 0 where there are none
+unfoldable pub greatest : (ℕ → ℕ) → ℕ → ℕ
+greatest g zero = 0
+greatest g (suc n) = max (greatest g n) (g n)
 
 module _ (f : Format) where
   open Ops (ops f) using (_⊕_, zero as nought)
