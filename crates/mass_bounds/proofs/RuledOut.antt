@@ -11,7 +11,9 @@ use Rattle.rounding.specs.Exact.{mag, sign, value}
 use Rattle.rounding.specs.Sums.{sumOf}
 use Rattle.mitc_tri3.specs.Masses.{cornersAt, verticesOf, badLengthOf}
 use Rattle.mitc_tri3.specs.Vertex.{namedBy, trianglesOf}
-use Rattle.mass_bounds.specs.Bounds.{isWholeUpTo, between, inRange, twiceArea, weight, exactShare, NearExact}
+use Rattle.mass_bounds.specs.Range.{isWholeUpTo, between, inRange}
+use Rattle.mass_bounds.specs.Shares.{twiceArea, weight, exactShare}
+use Rattle.mass_bounds.specs.Bounds.{NearExact}
 use Rattle.mass_bounds.specs.Example.{points, names, thick, rho, untouched, allZero, firstOnly}
 
 pub meets : inRange binary64 1048576 (2 ^ 40) names points thick rho ≡ true

@@ -18,7 +18,8 @@ use Rattle.rounding.proofs.ExactSums.{sum-append, sum-product, sizes-product, s
 use Rattle.del_geo_core.specs.declared.tri2.Tri2.{Tri2}
 use Rattle.mitc_tri3.specs.Masses.{cornersAt, verticesOf}
 use Rattle.mitc_tri3.specs.Vertex.{when, namedBy, trianglesOf}
-use Rattle.mass_bounds.specs.Bounds.{twiceArea, weight, exactShare, exactMass, sizes, namesOf, triangles, NearExact, AddUp, SumNear}
+use Rattle.mass_bounds.specs.Shares.{twiceArea, weight, exactShare, exactMass, sizes, namesOf, triangles}
+use Rattle.mass_bounds.specs.Bounds.{NearExact, AddUp, SumNear}
 
 -- ---- sums of any g over the triangles of each vertex, and over all triangles
 module _ (g : Tri2 → ℕ) (vtx2xy : List Float) where

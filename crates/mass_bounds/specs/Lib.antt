@@ -1,2 +1,4 @@
+pub mod Range
+pub mod Shares
 pub mod Bounds
 pub mod Example

@@ -7,9 +7,10 @@ use native.Mathlib.Nat.{lt-of-not-le}
 use native.Mathlib.Decide.{decLe}
 use native.Mathlib.Omega.{arith}
 use lib.Dec.{eqb}
+use lib.ListN.{length}
 use borrow.Author.Tests.{eq-eqb, ne-eqb}
 use Rattle.rounding.specs.Exact.{Num, Equal, _⊠_, sizeOf}
-use Rattle.rounding.specs.Sums.{sumOf, exactSum, sumTo, greatest}
+use Rattle.rounding.specs.Sums.{All, sumOf, exactSum, sumTo, greatest}
 use Rattle.rounding.proofs.Num.{size-product}
 
 -- ---- over a list
@@ -18,6 +19,12 @@ module _ {A : Type 0} where
   unfolding sumOf
   sum-append g [] m = omega arith
   sum-append g (a ∷ l) m = omega (arith, sum-append g l m)
+
+  -- each term is b / k at most
+  pub sum-most : (g : A → ℕ) (k b : ℕ) (l : List A) → All (λ a. g a * k ≤ b) l → sumOf g l * k ≤ length l * b
+  unfolding sumOf
+  sum-most g k b [] h = omega arith
+  sum-most g k b (a ∷ l) h = omega (arith, h .0, sum-most g k b l (h .1))
 
   -- each term has the factor w
   module _ (y : A → Num) (w : Num) where

@@ -8,5 +8,6 @@ pub mod Chain
 pub mod Sums
 pub mod Finite
 pub mod ExactSums
+pub mod Margin
 pub mod Dyadic
 pub mod Examples

@@ -58,3 +58,9 @@ product-scale a b n m p q e d =
       ap (λ (z : ℕ). p * n .plus * z) d,
       ap (λ (z : ℕ). p * n .minus * z) d,
     )
+
+num-is : (a b : Num) → a .plus ≡ b .plus → a .minus ≡ b .minus → a ≡ b
+num-is a b p q = λ i. record { plus = p i; minus = q i }
+
+pub product-assoc : (a b c : Num) → a ⊠ b ⊠ c ≡ a ⊠ (b ⊠ c)
+product-assoc a b c = num-is (a ⊠ b ⊠ c) (a ⊠ (b ⊠ c)) (omega arith) (omega arith)

@@ -2,7 +2,7 @@
 -- The first addition, to +0, is exact.
 use mathlib.Core.Path.{_≡_, refl}
 use mathlib.Core.Bool.{false}
-use mathlib.Core.List.{List, [], _∷_}
+use mathlib.Core.List.{List, [], _∷_, _++_}
 use Prim.Native.Nat.{ℕ, zero, suc, _+_, _*_, _/_, _^_, _≤_, _<_}
 use native.Mathlib.Nat.{le-refl, le-trans, le-of-eq, mul-le-mul, pow-suc}
 use native.Mathlib.Omega.{arith}
@@ -29,6 +29,10 @@ module _ {A : Type 0} (P : A → Type 0) where
   pub all-at : (l : List A) (d : A) → ((i : ℕ) → i < length l → P (getD l i d)) → All P l
   all-at [] d h = tt
   all-at (a ∷ l) d h = (h 0 (omega arith), all-at l d (λ i k. h (suc i) (omega arith)))
+
+  pub all-append : (l m : List A) → All P l → All P m → All P (l ++ m)
+  all-append [] m h k = k
+  all-append (a ∷ l) m h k = (h .0, all-append l m (h .1) k)
 
   all-take : (i : ℕ) (l : List A) → All P l → All P (take i l)
   all-take zero l h = tt
@@ -81,6 +85,14 @@ module _ {A : Type 0} (f : Format) (g : A → Float) where
   unfolding fold
   from-finite s [] t = t
   from-finite s (a ∷ l) t = add-finite f s (g a) (from-finite (s ⊕ g a) l t) .0
+
+  from-fits : (s : Float) (l : List A) → T (fits f s) → T (fits f (from s l))
+  unfolding fold
+  from-fits s [] h = h
+  from-fits s (a ∷ l) h = from-fits (s ⊕ g a) l (add-fits f s (g a))
+
+  pub total-fits : (l : List A) → T (fits f (total f g l))
+  total-fits l = from-fits nought l (zero-number f .fit)
 
   module _ (c K : ℕ) (y : A → Num) (S : A → ℕ) where
     from-near : {d S₀ : ℕ} {n : Num} (s : Float) (l : List A) → c ≤ d → Near f d K s n S₀ → All (λ a. T (finite (g a)) → Near f c K (g a) (y a) (S a)) l

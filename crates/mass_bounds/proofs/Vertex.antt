@@ -1,0 +1,85 @@
+-- A vertex's shares, added from +0, are finite and near the exact sum: each share is, with a margin for as many of them as there are names.
+use mathlib.Core.Path.{_≡_}
+use mathlib.Core.Bool.{Bool, true, false}
+use mathlib.Core.List.{List, [], _∷_, _++_}
+use Prim.Native.Nat.{ℕ, zero, suc, _+_, _^_, _≤_, _<_}
+use native.Mathlib.Nat.{add-comm, mul-pos, le-trans, one-le-pow}
+use native.Mathlib.Omega.{arith}
+use lib.Dec.{eqb, lit≤}
+use lib.ListN.{length, length-append}
+use lib.Pow.{pow-pos}
+use lib.Ieee.{Float, Format, prec, low}
+use Rattle.float.specs.Lists.{every, foldThrees, total}
+use Rattle.float.proofs.Fold.{threes-keep}
+use Rattle.rounding.specs.Exact.{sizeOf, value, Number}
+use Rattle.rounding.specs.Error.{Within}
+use Rattle.rounding.specs.Sums.{All, sumOf, exactSum}
+use Rattle.rounding.proofs.Sums.{all-append, all-map}
+use Rattle.rounding.proofs.Margin.{safe-sum}
+use Rattle.del_geo_core.specs.declared.tri2.Tri2.{Tri2}
+use Rattle.mitc_tri3.specs.Masses.{cornersAt}
+use Rattle.mitc_tri3.specs.Vertex.{when, namedBy, trianglesOf, shareOf}
+use Rattle.mass_bounds.specs.Range.{unit, inRange}
+use Rattle.mass_bounds.specs.Shares.{exactShare, over}
+use Rattle.mass_bounds.specs.Bounds.{roundings}
+use Rattle.mass_bounds.proofs.Premises.{Corners, wholeAt, point, in-range}
+use Rattle.mass_bounds.proofs.Share.{Margins, share-safe}
+
+-- ---- the triangles of a vertex: no more than there are names, with whole corners
+count : (l : List ℕ) (n : ℕ) → foldThrees (λ n i0 i1 i2. n + 3) n l ≤ n + length l
+unfolding foldThrees
+count (i0 ∷ i1 ∷ i2 ∷ l) n = le-trans (count l (n + 3)) (omega arith)
+count (i0 ∷ i1 ∷ []) n = omega arith
+count (i0 ∷ []) n = omega arith
+count [] n = omega arith
+
+module _ (f : Format) (B v : ℕ) (vtx2xy : List Float) where
+  -- n triangles at most
+  abbrev Few : ℕ → List Tri2 → Type 0
+  Few n l = All (Corners f B) l × (length l ≤ n)
+
+  few-when : (test : Bool) (p : Tri2) → Corners f B p → Few 1 (when test p)
+  few-when true p c = ((c, tt), lit≤ tt)
+  few-when false p c = (tt, lit≤ tt)
+
+  few-append : {n m : ℕ} (l k : List Tri2) → Few n l → Few m k → Few (n + m) (l ++ k)
+  few-append l k (a, h) (b, g) = (all-append (Corners f B) l k a b, rw (length-append l k) (omega arith))
+
+  few-named : (i0 i1 i2 : ℕ) → Corners f B (cornersAt vtx2xy i0 i1 i2) → Few 3 (namedBy v vtx2xy i0 i1 i2)
+  unfolding namedBy
+  few-named i0 i1 i2 c =
+      let p = cornersAt vtx2xy i0 i1 i2 in
+      let w : ℕ → List Tri2 = λ i. when (eqb i v) p in
+      let h : (i : ℕ) → Few 1 (w i) = λ i. few-when (eqb i v) p c in
+      few-append (w i0 ++ w i1) (w i2) (few-append (w i0) (w i1) (h i0) (h i1)) (h i2)
+
+  few-triangles : (tri2vtx : List ℕ) → every (wholeAt f B vtx2xy) tri2vtx ≡ true → Few (length tri2vtx) (trianglesOf v tri2vtx vtx2xy)
+  unfolding trianglesOf cornersAt
+  few-triangles tri2vtx e =
+      let at = point f B vtx2xy in
+      let (a, h) = threes-keep _ (λ n i0 i1 i2. n + 3) (wholeAt f B vtx2xy) (λ l n. Few n l)
+      (λ l n i0 i1 i2 e0 e1 e2 few. few-append l (namedBy v vtx2xy i0 i1 i2) few (few-named i0 i1 i2 (at i0 e0, at i1 e1, at i2 e2)))
+      tri2vtx [] 0 e (tt, lit≤ tt) in
+      (a, omega (arith, h, count tri2vtx 0))
+
+-- ---- THE law of a vertex
+module _ (f : Format) {B R N : ℕ} (m : Margins f B R N) (tri2vtx : List ℕ) (vtx2xy : List Float) (thick rho : Float) (few : length tri2vtx ≤ N)
+    (range : inRange f B R tri2vtx vtx2xy thick rho ≡ true) where
+  pub vertex : (v k : ℕ) → let l = trianglesOf v tri2vtx vtx2xy in let stored = total f (shareOf f k thick rho) l in Number f stored
+      × Within (2 ^ prec f) (length l + roundings k) (over f k) (value f stored) (exactSum (exactShare f k thick rho) l) (sumOf (λ p. sizeOf (exactShare f k thick rho p)) l)
+  vertex v k =
+      let (t, r, whole) = in-range f B vtx2xy R tri2vtx thick rho range in
+      let l = trianglesOf v tri2vtx vtx2xy in
+      let (corners, less) = few-triangles f B v vtx2xy tri2vtx whole in
+      let shares = all-map (λ p c. share-safe f m thick rho t r p c k) l corners in
+      let enough : roundings k + length l ≤ N + 6 = omega (arith, six k, less) in
+      let s = safe-sum f (shareOf f k thick rho) (roundings k) (over f k) (exactShare f k thick rho) (N + 6) l shares (some k) enough (omega arith) (m .few) in
+      (s .0, rw (add-comm (roundings k) (length l)) at (s .1))
+    where
+      six : (k : ℕ) → roundings k ≤ 6
+      six zero = lit≤ tt
+      six (suc k) = lit≤ tt
+
+      some : (k : ℕ) → 0 < over f k
+      some zero = mul-pos (lit≤ tt) (one-le-pow 3 (unit f) (pow-pos (low f)))
+      some (suc k) = mul-pos (lit≤ tt) (one-le-pow 5 (unit f) (pow-pos (low f)))

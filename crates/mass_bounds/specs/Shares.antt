@@ -1,0 +1,53 @@
+-- Exact shares of mass (01-scope 6.1), from the coordinates. An exact number counts units of 2 ^ -low (`value`), a product of n of them units of 2 ^ -(n * low).
+use mathlib.Core.List.{List, [], _∷_, _++_}
+use Prim.Native.Nat.{ℕ, zero, suc, _*_, _^_}
+use lib.Ieee.{Float, Format}
+use lib.ListN.{length}
+use Rattle.float.specs.Lists.{foldThrees}
+use Rattle.rounding.specs.Exact.{Num, _⊟_, _⊠_, sizeOf, value}
+use Rattle.rounding.specs.Sums.{sumOf, exactSum}
+use Rattle.del_geo_core.specs.declared.tri2.Tri2.{Tri2}
+use Rattle.mitc_tri3.specs.Masses.{cornersAt}
+use Rattle.mitc_tri3.specs.Vertex.{trianglesOf}
+use Rattle.mass_bounds.specs.Range.{unit}
+
+-- every triangle's corners, in the list's order
+unfoldable pub triangles : (tri2vtx : List ℕ) (vtx2xy : List Float) → List Tri2
+triangles tri2vtx vtx2xy = foldThrees (λ l i0 i1 i2. l ++ (cornersAt vtx2xy i0 i1 i2 ∷ [])) [] tri2vtx
+
+-- d: how often the list names vertex v
+abbrev pub namesOf : (tri2vtx : List ℕ) (vtx2xy : List Float) (v : ℕ) → ℕ
+namesOf tri2vtx vtx2xy v = length (trianglesOf v tri2vtx vtx2xy)
+
+module _ (f : Format) where
+  -- twice the signed area
+  unfoldable pub twiceArea : Tri2 → Num
+  twiceArea p =
+      let x0 = value f (p .p0 .x) in
+      let y0 = value f (p .p0 .y) in
+      let x1 = value f (p .p1 .x) in
+      let y1 = value f (p .p1 .y) in
+      let x2 = value f (p .p2 .x) in
+      let y2 = value f (p .p2 .y) in
+      (x1 ⊟ x0) ⊠ (y2 ⊟ y0) ⊟ (x2 ⊟ x0) ⊠ (y1 ⊟ y0)
+
+  -- density * thickness at place 0, the translation; density * thickness ^ 3 at places 1 and 2, the rotations
+  unfoldable pub weight : (k : ℕ) (thick rho : Float) → Num
+  weight zero thick rho = value f rho ⊠ value f thick
+  weight (suc k) thick rho = value f rho ⊠ (value f thick ⊠ value f thick ⊠ value f thick)
+
+  -- a triangle's share is exactShare / over: over 6, or 72, and in a stored number's units
+  unfoldable pub exactShare : (k : ℕ) (thick rho : Float) → Tri2 → Num
+  exactShare k thick rho p = twiceArea p ⊠ weight k thick rho
+
+  abbrev pub over : (k : ℕ) → ℕ
+  over zero = 6 * unit f ^ 3
+  over (suc k) = 72 * unit f ^ 5
+
+  module _ (tri2vtx : List ℕ) (vtx2xy : List Float) (thick rho : Float) where
+    -- a vertex's mass is the sum over its d names; and the sum of the sizes
+    abbrev pub exactMass : (k v : ℕ) → Num
+    exactMass k v = exactSum (exactShare k thick rho) (trianglesOf v tri2vtx vtx2xy)
+
+    abbrev pub sizes : (k v : ℕ) → ℕ
+    sizes k v = sumOf (λ p. sizeOf (exactShare k thick rho p)) (trianglesOf v tri2vtx vtx2xy)
