@@ -17,7 +17,6 @@ use del_geo_core::mat3_row_major::Matrix3;
 use del_geo_core::tri2;
 use del_geo_core::tri2::Tri2;
 use del_geo_core::tri2::V2;
-use del_geo_core::tri3;
 use del_geo_core::tri3::Tri3;
 use del_geo_core::vec3;
 use del_geo_core::vec3::V3;

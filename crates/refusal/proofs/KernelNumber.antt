@@ -1,5 +1,5 @@
 -- When a kernel gives which number, test by test: instances of the ladder's law.
-use mathlib.Core.Path.{_≡_, refl}
+use mathlib.Core.Path.{refl}
 use mathlib.Core.Bool.{Bool}
 use mathlib.Core.List.{[], _∷_}
 use borrow.Author.Tests.{eqb-false}
