@@ -205,6 +205,19 @@ fn ddw_at(s: State, di: Dstrain, dj: Dstrain) -> f64
     )
 }
 
+// The same for a row's last entry: a function that is called at one place alone is inlined wherever the kernel is called from, one that is called at two only from a hot loop.
+fn ddw_last(s: State, di: Dstrain, dj: Dstrain) -> f64
+    ensures { λ r. ⌜ r ≡ ddwAtOf binary64 s di dj ⌝ }
+{
+    sum(
+        bending::ddw(s.bending, di.bending0, dj.bending0),
+        bending::ddw(s.bending, di.bending1, dj.bending1),
+        shear::ddw(s.shear, di.shear0, dj.shear0),
+        shear::ddw(s.shear, di.shear1, dj.shear1),
+        shear::ddw(s.shear, di.shear2, dj.shear2),
+    )
+}
+
 // The nine entries by degree of freedom i and each j. Eight stand in a loop of their own: an even count, which the compiler takes two at a time.
 fn row(
     s: State,
@@ -224,7 +237,7 @@ fn row(
     for j in 0..8usize {
         row[j] = ddw_at(s, di, columns(b0, b1, s0, s1, s2, j));
     }
-    row[8] = ddw_at(s, di, columns(b0, b1, s0, s1, s2, 8));
+    row[8] = ddw_last(s, di, columns(b0, b1, s0, s1, s2, 8));
     row
 }
 

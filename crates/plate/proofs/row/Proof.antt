@@ -40,4 +40,4 @@ row-spec = tie.close (tie.spec
     (λ c. omega arith)
     (λ c. let n = c .before .before .before .loop in
     let e : n .j ≡ 8 = omega arith in
-    done _ (columnsOf _ _ _ _ _) _ (c .before .before .before .before .columns .ensures) (rw e at (n .inv .1)) (rw (c .ddw-at2 .ensures, c .before .columns3 .ensures))))
+    done _ (columnsOf _ _ _ _ _) _ (c .before .before .before .before .columns .ensures) (rw e at (n .inv .1)) (rw (c .ddw-last .ensures, c .before .columns3 .ensures))))
