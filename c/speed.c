@@ -1,0 +1,122 @@
+/* Calls an exported function many times, so that the instructions of one call can be counted as C sees it (docs/SPEED.md). Runs and lines are those of crates/speed. */
+#include "del_fem.h"
+#include <stdio.h>
+#include <stdlib.h>
+#include <string.h>
+
+/* By how much every number moves from one call to the next. */
+static const double STEP = 1.0 / 1048576.0;
+
+static int next_word(uint64_t *w) {
+    unsigned char b[8];
+    if (fread(b, 1, 8, stdin) < 8) {
+        return 0;
+    }
+    *w = 0;
+    for (int i = 0; i < 8; i++) {
+        *w = *w << 8 | b[i];
+    }
+    return 1;
+}
+
+static uint64_t whole(void) {
+    uint64_t w = 0;
+    if (!next_word(&w)) {
+        exit(1);
+    }
+    return w;
+}
+
+static double number(void) {
+    uint64_t w = whole();
+    double x;
+    memcpy(&x, &w, sizeof x);
+    return x;
+}
+
+static void *list(size_t n, size_t size) {
+    void *p = calloc(n + 1, size);
+    if (p == NULL) {
+        exit(1);
+    }
+    return p;
+}
+
+/* Of call k; values at changing places are taken. */
+static double call(uint64_t kind, const double x[24], uint64_t k) {
+    double v[DEL_FEM_ENERGY_VALUES], a[4][3], b[4][3], p[3][2];
+    uint64_t at = k % 81;
+    memcpy(p, x, sizeof p);
+    switch (kind) {
+    case 1:
+        return root_sqrt(x[0]);
+    case 2:
+        memcpy(a, x, sizeof a);
+        memcpy(b, x + 12, sizeof b);
+        quadratic_bending_wdw((const double (*)[3])a, (const double (*)[3])b, v);
+        return v[k % 36 % 3] + v[3 + k % 36];
+    case 3:
+        memcpy(b, x + 6, 9 * sizeof *x);
+        stvk_tri3_wdw((const double (*)[2])p, (const double (*)[3])b, v);
+        return v[k % 27 % 3] + v[3 + k % 27];
+    case 4:
+        memcpy(a, x, 9 * sizeof *x);
+        memcpy(b, x + 9, 9 * sizeof *x);
+        stvk_tri3_wdwddw_((const double (*)[3])a, (const double (*)[3])b, x[18], x[19], v);
+        return v[0] + v[1 + at % 9] + v[10 + at];
+    case 5:
+        memcpy(b, x + 6, 9 * sizeof *x);
+        mitc_tri3_w_dw_ddw_plate_bending((const double (*)[2])p, (const double (*)[3])b, x[15], x[16], x[17], v);
+        return v[0] + v[1 + at % 9] + v[10 + at];
+    default:
+        return 0;
+    }
+}
+
+static double kernel(uint64_t kind, uint64_t count) {
+    double x[24], moved[24], s = 0, sum = 0;
+    for (int i = 0; i < 24; i++) {
+        x[i] = number();
+    }
+    for (uint64_t k = 0; k < count; k++) {
+        for (int i = 0; i < 24; i++) {
+            moved[i] = x[i] + s;
+        }
+        sum += call(kind, moved, k);
+        s += STEP;
+    }
+    return sum;
+}
+
+static double panel(uint64_t count) {
+    size_t coordinates = whole(), names = whole(), places = coordinates / 2 * 3;
+    double thick = number(), rho = number(), s = 0, sum = 0;
+    double *xy = list(coordinates, sizeof *xy), *mass = list(places, sizeof *mass);
+    size_t *tri = list(names, sizeof *tri);
+    for (size_t i = 0; i < coordinates; i++) {
+        xy[i] = number();
+    }
+    for (size_t i = 0; i < names; i++) {
+        tri[i] = whole();
+    }
+    for (uint64_t k = 0; k < count; k++) {
+        mitc_tri3_mass_lumped_plate_bending(tri, names, xy, coordinates, thick + s, rho, mass, places);
+        sum += places == 0 ? 0 : mass[places - 1];
+        s += STEP;
+    }
+    free(xy);
+    free(mass);
+    free(tri);
+    return sum;
+}
+
+int main(void) {
+    uint64_t kind, bits;
+    while (next_word(&kind)) {
+        uint64_t count = whole();
+        double sum = kind == 6 ? panel(count) : kernel(kind, count);
+        memcpy(&bits, &sum, sizeof bits);
+        printf("%016llx\n", (unsigned long long)bits);
+    }
+    return 0;
+}

@@ -1,0 +1,167 @@
+/* Calls every exported function from C on the starred examples of docs/01-scope.md 7, and looks at the raw bits of NaNs, which no statement sees. */
+#include "del_fem.h"
+#include <stdio.h>
+#include <string.h>
+
+static int passed, failed;
+
+static void check(const char *what, int ok) {
+    printf("%s  %s\n", ok ? "ok  " : "FAIL", what);
+    if (ok) {
+        passed++;
+    } else {
+        failed++;
+    }
+}
+
+static uint64_t bits(double x) {
+    uint64_t w;
+    memcpy(&w, &x, sizeof w);
+    return w;
+}
+
+static double of_bits(uint64_t w) {
+    double x;
+    memcpy(&x, &w, sizeof x);
+    return x;
+}
+
+static const uint64_t NAN_BITS = 0x7FF8000000000000;
+
+/* both forms of the root, in bits */
+static void check_root(const char *what, uint64_t x, uint64_t want) {
+    check(what, bits(root_sqrt(of_bits(x))) == want && root_sqrt_word(x) == want);
+}
+
+static int all_plus_zero(const double *xs, int n) {
+    for (int i = 0; i < n; i++) {
+        if (bits(xs[i]) != 0) {
+            return 0;
+        }
+    }
+    return 1;
+}
+
+/* what a lent buffer holds on entry */
+static void scribble(double *xs, int n) {
+    for (int i = 0; i < n; i++) {
+        xs[i] = -7.5;
+    }
+}
+
+static int untouched(const double *xs, int n) {
+    for (int i = 0; i < n; i++) {
+        if (xs[i] != -7.5) {
+            return 0;
+        }
+    }
+    return 1;
+}
+
+static void roots(void) {
+    check_root("root of 4", bits(4.0), bits(2.0));
+    check_root("root of 2", bits(2.0), 0x3FF6A09E667F3BCD);
+    check_root("root of 2^-1074", 1, 0x1E60000000000000);
+    check_root("root of the largest finite double", 0x7FEFFFFFFFFFFFFF, 0x5FEFFFFFFFFFFFFF);
+    check_root("root of +0", 0, 0);
+    check_root("root of -0", 0x8000000000000000, 0x8000000000000000);
+    check_root("root of +infinity", 0x7FF0000000000000, 0x7FF0000000000000);
+    check_root("root of -1", bits(-1.0), NAN_BITS);
+    check_root("root of -infinity", 0xFFF0000000000000, NAN_BITS);
+    check_root("root of -2^-1074", 0x8000000000000001, NAN_BITS);
+    check_root("root of a NaN with a payload", 0x7FF8000000C0FFEE, NAN_BITS);
+    check_root("root of a negative NaN with a payload", 0xFFF8000000C0FFEE, NAN_BITS);
+    check_root("root of a signalling NaN", 0x7FF0000000000001, NAN_BITS);
+    check_root("root of a negative signalling NaN", 0xFFF0000000000001, NAN_BITS);
+}
+
+static void bending(void) {
+    const double ini[4][3] = {{0, 2, 0}, {0, -2, 0}, {0, 0, 0}, {2, 0, 0}};
+    const double def[4][3] = {{0, 0, 1}, {0, 0, 0}, {0, 0, 0}, {0, 0, 0}};
+    double values[DEL_FEM_BENDING_VALUES + 1];
+    scribble(values, DEL_FEM_BENDING_VALUES + 1);
+    uint32_t number = quadratic_bending_wdw(ini, def, values);
+    check("bending, example 11", number == DEL_FEM_ACCEPTED && bits(values[2]) == 0xBFEBB67AE8584CAA);
+    check("bending writes no further", untouched(values + DEL_FEM_BENDING_VALUES, 1));
+    number = quadratic_bending_wdw(def, def, values);
+    check("bending refuses an edge of length 0", number == DEL_FEM_ZERO_DIVISOR && all_plus_zero(values, DEL_FEM_BENDING_VALUES));
+}
+
+static void strain(void) {
+    const double ini[3][2] = {{0, 0}, {1, 0}, {0, 1}};
+    const double def[3][3] = {{0, 0, 0}, {2, 0, 0}, {0, 1, 0}};
+    const double flat[3][2] = {{0, 0}, {1, 0}, {2, 0}};
+    double values[DEL_FEM_STRAIN_VALUES + 1];
+    scribble(values, DEL_FEM_STRAIN_VALUES + 1);
+    uint32_t number = stvk_tri3_wdw(ini, def, values);
+    check("strain, example 10", number == DEL_FEM_ACCEPTED && values[0] == 1.5 && values[1] == 0 && values[2] == 0);
+    check("strain writes no further", untouched(values + DEL_FEM_STRAIN_VALUES, 1));
+    number = stvk_tri3_wdw(flat, def, values);
+    check("strain refuses a flat triangle", number == DEL_FEM_ZERO_DIVISOR && all_plus_zero(values, DEL_FEM_STRAIN_VALUES));
+}
+
+static void stvk(void) {
+    const double p0[3][3] = {{0, 0, 0}, {1, 0, 0}, {0, 1, 0}};
+    const double p1[3][3] = {{0, 0, 0}, {2, 0, 0}, {0, 1, 0}};
+    const double flat[3][3] = {{0, 0, 0}, {1, 0, 0}, {2, 0, 0}};
+    double values[DEL_FEM_ENERGY_VALUES + 1];
+    scribble(values, DEL_FEM_ENERGY_VALUES + 1);
+    uint32_t number = stvk_tri3_wdwddw_(p0, p1, 0, 1, values);
+    check("StVK, example 9", number == DEL_FEM_ACCEPTED && values[0] == 1.125 && values[1] == -3 && values[4] == 3 && values[7] == 0);
+    check("StVK writes no further", untouched(values + DEL_FEM_ENERGY_VALUES, 1));
+    number = stvk_tri3_wdwddw_(flat, p1, 0, 1, values);
+    check("StVK, example 12", number == DEL_FEM_ZERO_DIVISOR && all_plus_zero(values, DEL_FEM_ENERGY_VALUES));
+}
+
+static void plate(void) {
+    const double p[3][2] = {{0, 0}, {1, 0}, {0, 1}};
+    const double u[3][3] = {{0, 0, 0}, {1, 0, 0}, {0, 0, 0}};
+    double values[DEL_FEM_ENERGY_VALUES + 1];
+    scribble(values, DEL_FEM_ENERGY_VALUES + 1);
+    uint32_t number = mitc_tri3_w_dw_ddw_plate_bending(p, u, 2, 0, 1, values);
+    check("plate, example 8", number == DEL_FEM_ACCEPTED && values[0] == 2);
+    check("plate writes no further", untouched(values + DEL_FEM_ENERGY_VALUES, 1));
+    number = mitc_tri3_w_dw_ddw_plate_bending(p, u, 0, 0, 1, values);
+    check("plate, example 8 at thickness 0", number == DEL_FEM_ZERO_DIVISOR && all_plus_zero(values, DEL_FEM_ENERGY_VALUES));
+    number = mitc_tri3_w_dw_ddw_plate_bending(p, u, of_bits(0x7FF0000000000000), 0, 1, values);
+    check("plate, example 13", number == DEL_FEM_BAD_INPUT && all_plus_zero(values, DEL_FEM_ENERGY_VALUES));
+}
+
+static const double XY[8] = {0, 0, 6, 0, 0, 6, 6, 6};
+
+static uint32_t masses_of(const size_t *tri2vtx, size_t len, double *mass) {
+    scribble(mass, 13);
+    return mitc_tri3_mass_lumped_plate_bending(tri2vtx, len, XY, 8, 1, 2, mass, 12);
+}
+
+static int are(const double *mass, const double *want) {
+    return memcmp(mass, want, 12 * sizeof *want) == 0;
+}
+
+static void masses(void) {
+    const size_t one[3] = {0, 1, 2}, turned[3] = {0, 2, 1}, panel[6] = {0, 1, 2, 1, 3, 2};
+    const size_t four[4] = {0, 1, 2, 3}, missing[3] = {0, 1, 4}, far[3] = {0, 1, 3};
+    const double left[12] = {12, 1, 1, 12, 1, 1, 12, 1, 1, 0, 0, 0};
+    const double right[12] = {-12, -1, -1, -12, -1, -1, -12, -1, -1, 0, 0, 0};
+    const double both[12] = {12, 1, 1, 24, 2, 2, 24, 2, 2, 12, 1, 1};
+    double mass[13];
+    check("masses, example 1", masses_of(one, 3, mass) == DEL_FEM_ACCEPTED && are(mass, left));
+    check("masses, example 2", masses_of(turned, 3, mass) == DEL_FEM_ACCEPTED && are(mass, right));
+    check("masses, example 3", masses_of(panel, 6, mass) == DEL_FEM_ACCEPTED && are(mass, both));
+    check("masses write no further", untouched(mass + 12, 1));
+    check("masses, example 4: no names", masses_of(one, 0, mass) == DEL_FEM_ACCEPTED && all_plus_zero(mass, 12));
+    check("masses, example 4: four names", masses_of(four, 4, mass) == DEL_FEM_BAD_LENGTH && untouched(mass, 12));
+    check("masses, example 4: a name 4", masses_of(missing, 3, mass) == DEL_FEM_BAD_NAME && untouched(mass, 12));
+    check("masses, example 4: a name 3", masses_of(far, 3, mass) == DEL_FEM_ACCEPTED);
+}
+
+int main(void) {
+    roots();
+    bending();
+    strain();
+    stvk();
+    plate();
+    masses();
+    printf("%d checks passed, %d failed\n", passed, failed);
+    return failed != 0;
+}

@@ -1,0 +1,41 @@
+-- What an exported kernel gives: its answer's number is returned, and the lent array holds the answer's values one after the other, whatever was in it.
+-- The answer is the one that the kernel's own statement names, with +0 throughout after a refusal (01-scope 2.1).
+use mathlib.Core.Path.{_≡_}
+use mathlib.Core.List.{List, _∷_, _++_}
+use Prim.Native.Nat.{ℕ}
+use lib.Ieee.{Float, Format}
+use Rattle.refusal.specs.declared.Energy.{Energy}
+use Rattle.del_geo_core.specs.Tri2 as tri2
+use Rattle.del_geo_core.specs.Tri3 as tri3
+use Rattle.quadratic_bending.specs.Bending as bending
+use Rattle.quadratic_bending.specs.declared.Bending.{Bending}
+use Rattle.stvk_tri3.specs.Strain as strain
+use Rattle.stvk_tri3.specs.Stvk.{wdwddwOf}
+use Rattle.stvk_tri3.specs.declared.Strain.{Strain}
+use Rattle.mitc_tri3.specs.Plate.{wDwDdwPlateBendingOf}
+
+abbrev pub GivesBending : Bending → (r : ℕ) (values : List Float) → Type 0
+GivesBending a r values = (r ≡ a .number) × (values ≡ a .w ++ a .dwdp)
+
+abbrev pub GivesStrain : Strain → (r : ℕ) (values : List Float) → Type 0
+GivesStrain a r values = (r ≡ a .number) × (values ≡ a .w ++ a .dw)
+
+abbrev pub GivesEnergy : Energy → (r : ℕ) (values : List Float) → Type 0
+GivesEnergy a r values = (r ≡ a .number) × (values ≡ a .w ∷ a .dw ++ a .ddw)
+
+module _ (f : Format) where
+  -- THE statement of `quadratic_bending_wdw` (01-scope 5.6)
+  abbrev pub IsBendingExport : (pIni pDef : List (List Float)) (r : ℕ) (values : List Float) → Type 0
+  IsBendingExport pIni pDef = GivesBending (bending.wdwOf f (bending.cornersOf pIni) (bending.cornersOf pDef))
+
+  -- THE statement of `stvk_tri3_wdw` (01-scope 5.4)
+  abbrev pub IsStrainExport : (pIni pDef : List (List Float)) (r : ℕ) (values : List Float) → Type 0
+  IsStrainExport pIni pDef = GivesStrain (strain.wdwOf f (tri2.cornersOf pIni) (tri3.cornersOf pDef))
+
+  -- THE statement of `stvk_tri3_wdwddw_` (01-scope 5.5)
+  abbrev pub IsStvkExport : (p0 p1 : List (List Float)) (lambda myu : Float) (r : ℕ) (values : List Float) → Type 0
+  IsStvkExport p0 p1 lambda myu = GivesEnergy (wdwddwOf f (tri3.cornersOf p0) (tri3.cornersOf p1) lambda myu)
+
+  -- THE statement of `mitc_tri3_w_dw_ddw_plate_bending` (01-scope 5.2)
+  abbrev pub IsPlateExport : (p u : List (List Float)) (thk lambda myu : Float) (r : ℕ) (values : List Float) → Type 0
+  IsPlateExport p u thk lambda myu = GivesEnergy (wDwDdwPlateBendingOf f (tri2.cornersOf p) (tri3.cornersOf u) thk lambda myu)

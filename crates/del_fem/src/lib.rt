@@ -1,0 +1,133 @@
+// What C and Rust link: each routine under one plain name, corners by reference, values into a lent array, the refusal number returned (include/del_fem.h).
+ghost use mathlib.Core.Path.{_≡_};
+ghost use Prim.Native.Nat.{_+_, _≤_};
+ghost use lib.Ieee.{binary64};
+ghost use lib.ListN.{length};
+ghost use lib.Seq.{paste};
+ghost use Rattle.root.specs.Root.{SquareRoot, SquareRootWord};
+ghost use Rattle.mitc_tri3.specs.Masses.{IsMasses};
+ghost use Rattle.del_fem.specs.Exports.{GivesBending, GivesStrain, GivesEnergy, IsBendingExport, IsStrainExport, IsStvkExport, IsPlateExport};
+use quadratic_bending::Bending;
+use refusal::Energy;
+use stvk_tri3::Strain;
+
+// Writes xs into values, from the place at on.
+fn put(xs: &[f64], at: usize, values: &mut [f64])
+    requires { ⌜ at + length (now xs) ≤ length (now values) ⌝ }
+    ensures { λ _. ⌜ now (values .exit) ≡ paste (now (values .entry)) at (now (xs .entry)) (length (now (xs .entry))) ⌝ }
+{
+    for i in 0..xs.len() {
+        values[at + i] = xs[i];
+    }
+}
+
+fn put_bending(bending: Bending, values: &mut [f64; 39]) -> u32
+    ensures { λ r. ⌜ GivesBending bending r (now (values .exit)) ⌝ }
+{
+    put(&bending.w, 0, values);
+    put(&bending.dwdp, 3, values);
+    bending.number
+}
+
+fn put_strain(strain: Strain, values: &mut [f64; 30]) -> u32
+    ensures { λ r. ⌜ GivesStrain strain r (now (values .exit)) ⌝ }
+{
+    put(&strain.w, 0, values);
+    put(&strain.dw, 3, values);
+    strain.number
+}
+
+fn put_energy(energy: Energy, values: &mut [f64; 91]) -> u32
+    ensures { λ r. ⌜ GivesEnergy energy r (now (values .exit)) ⌝ }
+{
+    values[0] = energy.w;
+    put(&energy.dw, 1, values);
+    put(&energy.ddw, 10, values);
+    energy.number
+}
+
+// The root of x.
+#[no_mangle]
+pub extern "C" fn root_sqrt(x: f64) -> f64
+    ensures { λ r. ⌜ SquareRoot binary64 x r ⌝ }
+{
+    root::sqrt(x)
+}
+
+// The root on bit patterns.
+#[no_mangle]
+pub extern "C" fn root_sqrt_word(w: u64) -> u64
+    ensures { λ r. ⌜ SquareRootWord binary64 w r ⌝ }
+{
+    root::sqrt_word(w)
+}
+
+// Three bending values, then their 36 derivatives.
+#[no_mangle]
+pub extern "C" fn quadratic_bending_wdw(
+    p_ini: &[[f64; 3]; 4],
+    p_def: &[[f64; 3]; 4],
+    values: &mut [f64; 39],
+) -> u32
+    ensures { λ r. ⌜ IsBendingExport binary64 (now («p_ini» .entry)) (now («p_def» .entry)) r (now (values .exit)) ⌝ }
+{
+    put_bending(quadratic_bending::wdw(*p_ini, *p_def), values)
+}
+
+// Three strains, then their 27 derivatives.
+#[no_mangle]
+pub extern "C" fn stvk_tri3_wdw(
+    p_ini: &[[f64; 2]; 3],
+    p_def: &[[f64; 3]; 3],
+    values: &mut [f64; 30],
+) -> u32
+    ensures { λ r. ⌜ IsStrainExport binary64 (now («p_ini» .entry)) (now («p_def» .entry)) r (now (values .exit)) ⌝ }
+{
+    put_strain(stvk_tri3::wdw(*p_ini, *p_def), values)
+}
+
+// The StVK energy, its gradient of 9, its Hessian of 81.
+#[no_mangle]
+pub extern "C" fn stvk_tri3_wdwddw_(
+    p0: &[[f64; 3]; 3],
+    p1: &[[f64; 3]; 3],
+    lambda: f64,
+    myu: f64,
+    values: &mut [f64; 91],
+) -> u32
+    ensures { λ r. ⌜ IsStvkExport binary64 (now (p0 .entry)) (now (p1 .entry)) lambda myu r (now (values .exit)) ⌝ }
+{
+    put_energy(stvk_tri3::wdwddw_(*p0, *p1, lambda, myu), values)
+}
+
+// The plate's energy, its gradient of 9, its Hessian of 81.
+#[no_mangle]
+pub extern "C" fn mitc_tri3_w_dw_ddw_plate_bending(
+    p: &[[f64; 2]; 3],
+    u: &[[f64; 3]; 3],
+    thk: f64,
+    lambda: f64,
+    myu: f64,
+    values: &mut [f64; 91],
+) -> u32
+    ensures { λ r. ⌜ IsPlateExport binary64 (now (p .entry)) (now (u .entry)) thk lambda myu r (now (values .exit)) ⌝ }
+{
+    put_energy(
+        mitc_tri3::w_dw_ddw_plate_bending(*p, *u, thk, lambda, myu),
+        values,
+    )
+}
+
+// The lumped masses, three for each vertex.
+#[no_mangle]
+pub extern "C" fn mitc_tri3_mass_lumped_plate_bending(
+    tri2vtx: &[usize],
+    vtx2xy: &[f64],
+    thick: f64,
+    rho: f64,
+    vtx2mass: &mut [f64],
+) -> u32
+    ensures { λ r. ⌜ IsMasses binary64 (now («tri2vtx» .entry)) (now («vtx2xy» .entry)) thick rho (now («vtx2mass» .entry)) r (now («vtx2mass» .exit)) ⌝ }
+{
+    mitc_tri3::mass_lumped_plate_bending(tri2vtx, vtx2xy, thick, rho, vtx2mass)
+}

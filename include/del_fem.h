@@ -1,0 +1,94 @@
+/*
+ * The routines of del_fem for C99 and C++, over target/staticlib/libdel_fem.a (x86-64 Linux; built by `rt staticlib del_fem`).
+ *
+ * Each routine's source is proved to give what docs/01-scope.md says, on every input, to end, and to read and write nothing but what it is lent; the compiler and the border to C are not
+ * part of the proof (c/run looks at them). There is no state between calls: several threads may call at once, each with a buffer of its own.
+ *
+ * What the caller owes:
+ *   - every pointer is aligned, is not null (not even for a list of no entries) and has as many entries behind it as is stated here;
+ *   - the lent buffer overlaps no other argument (the others may overlap each other);
+ *   - floating point is as a program starts with it: rounding to nearest, subnormal numbers not flushed to zero.
+ *
+ * A kernel (the four with `values`) returns its number and fills all of `values`, whatever was in them: the answer's numbers in the order stated where it returns 0, +0 throughout where it refuses.
+ * ISO C before C23 lets only arrays that are themselves const pass for `const double p[3][2]`; compilers complain about others under -pedantic alone.
+ */
+#ifndef DEL_FEM_H
+#define DEL_FEM_H
+
+#include <stddef.h>
+#include <stdint.h>
+
+#ifdef __cplusplus
+extern "C" {
+#endif
+
+/* What is returned: the lowest number whose condition holds (01-scope 2.1). */
+#define DEL_FEM_ACCEPTED 0u     /* none of the others */
+#define DEL_FEM_BAD_LENGTH 1u   /* masses alone: a length or a limit is wrong */
+#define DEL_FEM_BAD_NAME 2u     /* masses alone: a triangle names a vertex that does not exist */
+#define DEL_FEM_BAD_INPUT 3u    /* a number that the routine reads is a NaN or an infinity */
+#define DEL_FEM_ZERO_DIVISOR 4u /* a kernel's divisor is zero, of either sign */
+#define DEL_FEM_BAD_ANSWER 5u   /* the finished answer has a NaN or an infinity in it */
+
+/* How many numbers a kernel's `values` hold. */
+#define DEL_FEM_BENDING_VALUES 39 /* w 3, dwdp 36 */
+#define DEL_FEM_STRAIN_VALUES 30  /* w 3, dw 27 */
+#define DEL_FEM_ENERGY_VALUES 91  /* w 1, dw 9, ddw 81 */
+
+/* The largest panel (01-scope 2.3). */
+#define DEL_FEM_MAX_VERTICES 65536
+#define DEL_FEM_MAX_TRIANGLES 131072
+
+/*
+ * IEEE 754's squareRoot, to nearest (01-scope 4). -0 gives -0; every NaN and everything below zero gives the NaN with the bits 0x7FF8000000000000. It refuses nothing.
+ */
+double root_sqrt(double x);
+
+/* The same on bit patterns: w and the answer are the bits of a double. */
+uint64_t root_sqrt_word(uint64_t w);
+
+/*
+ * How far two triangles bend about the edge that they share, from corner 2 to corner 3; corners 0 and 1 stand across it (01-scope 5.6). p_ini at rest, p_def deformed.
+ * values: w[i_dim] at i_dim; dwdp[i_dim][node][dim] at 3 + (i_dim * 4 + node) * 3 + dim.
+ * Returns 3; 4 where the edge's length, a triangle's height on it, or root(area0 + area1) times the length is zero; 5; else 0.
+ */
+uint32_t quadratic_bending_wdw(const double p_ini[4][3], const double p_def[4][3], double values[DEL_FEM_BENDING_VALUES]);
+
+/*
+ * Three strains of a plane rest triangle that is deformed into space, and their derivatives by the deformed corners (01-scope 5.4).
+ * values: w[k] at k; dw[k][ino][idim] at 3 + (k * 3 + ino) * 3 + idim.
+ * Returns 3; 4 where twice the rest area or a contravariant vector's norm is zero; 5; else 0.
+ */
+uint32_t stvk_tri3_wdw(const double p_ini[3][2], const double p_def[3][3], double values[DEL_FEM_STRAIN_VALUES]);
+
+/*
+ * The StVK energy of a triangle with the corners p0 at rest and p1 deformed, its gradient and Hessian by p1, for the Lame parameters lambda and myu (01-scope 5.5). No thickness enters.
+ * values: w at 0; dw[ino][idim] at 1 + ino * 3 + idim; ddw[ino][jno][idim * 3 + jdim] at 10 + (ino * 3 + jno) * 9 + idim * 3 + jdim.
+ * Returns 3; 4 where the rest normal's norm or a dot that scales a contravariant vector is zero; 5; else 0.
+ */
+uint32_t stvk_tri3_wdwddw_(const double p0[3][3], const double p1[3][3], double lambda, double myu, double values[DEL_FEM_ENERGY_VALUES]);
+
+/*
+ * The energy of a plate of thickness thk over the plane corners p, its gradient and Hessian by u: at each corner the displacement in z and the rotations about x and y (01-scope 5.2).
+ * values: w at 0; dw[ino][idof] at 1 + ino * 3 + idof; ddw[ino][jno][idof * 3 + jdof] at 10 + (ino * 3 + jno) * 9 + idof * 3 + jdof.
+ * Returns 3; 4 where a dot of the inverse is zero; 5; else 0.
+ */
+uint32_t mitc_tri3_w_dw_ddw_plate_bending(
+    const double p[3][2], const double u[3][3], double thk, double lambda, double myu, double values[DEL_FEM_ENERGY_VALUES]);
+
+/*
+ * The lumped masses of a panel of thickness thick and density rho (01-scope 5.3). Each length counts entries.
+ * tri2vtx: three vertices for each triangle. vtx2xy: two coordinates for each vertex; a left-over last number is not read. vtx2mass: three masses for each vertex, for its translation and its
+ * two rotations.
+ * Returns 1 where there are more than DEL_FEM_MAX_VERTICES vertices or DEL_FEM_MAX_TRIANGLES triangles, where 3 does not divide tri2vtx_len, or where vtx2mass_len is not three times the
+ * vertices; 2 where a vertex that is named does not exist; 3 where thick, rho or a coordinate of a named vertex is not finite; 5; else 0.
+ * vtx2mass holds the masses after 0, +0 throughout after 5, and what it held before after 1, 2 and 3.
+ */
+uint32_t mitc_tri3_mass_lumped_plate_bending(const size_t *tri2vtx, size_t tri2vtx_len, const double *vtx2xy, size_t vtx2xy_len, double thick,
+    double rho, double *vtx2mass, size_t vtx2mass_len);
+
+#ifdef __cplusplus
+}
+#endif
+
+#endif

@@ -1,0 +1,45 @@
+//! The exported functions as `../include/del_fem.h` declares them. A slice crosses as its pointer and its length.
+
+pub const BENDING_VALUES: usize = 39;
+pub const STRAIN_VALUES: usize = 30;
+pub const ENERGY_VALUES: usize = 91;
+
+extern "C" {
+    pub fn root_sqrt(x: f64) -> f64;
+    pub fn root_sqrt_word(w: u64) -> u64;
+    pub fn quadratic_bending_wdw(
+        p_ini: *const [[f64; 3]; 4],
+        p_def: *const [[f64; 3]; 4],
+        values: *mut [f64; BENDING_VALUES],
+    ) -> u32;
+    pub fn stvk_tri3_wdw(
+        p_ini: *const [[f64; 2]; 3],
+        p_def: *const [[f64; 3]; 3],
+        values: *mut [f64; STRAIN_VALUES],
+    ) -> u32;
+    pub fn stvk_tri3_wdwddw_(
+        p0: *const [[f64; 3]; 3],
+        p1: *const [[f64; 3]; 3],
+        lambda: f64,
+        myu: f64,
+        values: *mut [f64; ENERGY_VALUES],
+    ) -> u32;
+    pub fn mitc_tri3_w_dw_ddw_plate_bending(
+        p: *const [[f64; 2]; 3],
+        u: *const [[f64; 3]; 3],
+        thk: f64,
+        lambda: f64,
+        myu: f64,
+        values: *mut [f64; ENERGY_VALUES],
+    ) -> u32;
+    pub fn mitc_tri3_mass_lumped_plate_bending(
+        tri2vtx: *const usize,
+        tri2vtx_len: usize,
+        vtx2xy: *const f64,
+        vtx2xy_len: usize,
+        thick: f64,
+        rho: f64,
+        vtx2mass: *mut f64,
+        vtx2mass_len: usize,
+    ) -> u32;
+}

@@ -1,0 +1,162 @@
+//! Every routine on every stored record of its kind, against the oracle's answers, bit for bit (docs/REPLAY.md has the layout).
+use del_fem::{mitc_tri3, quadratic_bending, root, stvk_tri3, Energy, Refusal};
+use std::path::Path;
+
+/// How many words follow a helper's number; the helpers themselves are not exported.
+const HELPER_INPUTS: [usize; 12] = [0, 6, 6, 6, 4, 3, 3, 6, 9, 9, 6, 9];
+
+/// The words of the records that are still to be read.
+struct Records<'a>(&'a [u8]);
+
+impl Records<'_> {
+    fn word(&mut self) -> Option<u64> {
+        let word = self.0.get(..8)?.try_into().expect("eight bytes");
+        self.0 = &self.0[8..];
+        Some(u64::from_be_bytes(word))
+    }
+
+    fn number(&mut self) -> Option<f64> {
+        self.word().map(f64::from_bits)
+    }
+
+    fn count(&mut self) -> Option<usize> {
+        self.word().map(|w| w.try_into().expect("a length"))
+    }
+
+    fn numbers(&mut self, n: usize) -> Option<Vec<f64>> {
+        (0..n).map(|_| self.number()).collect()
+    }
+
+    /// `N` points of `D` coordinates each.
+    fn points<const D: usize, const N: usize>(&mut self) -> Option<[[f64; D]; N]> {
+        let flat = self.numbers(D * N)?;
+        Some(std::array::from_fn(|i| {
+            std::array::from_fn(|j| flat[i * D + j])
+        }))
+    }
+}
+
+/// An answer line: the number, then the values' bits.
+type Line = Vec<u64>;
+
+fn read(line: &str) -> Line {
+    line.split(' ')
+        .map(|word| u64::from_str_radix(word, 16).expect("a word"))
+        .collect()
+}
+
+/// The bits of a number, every NaN's as the oracle writes them.
+fn bits(x: f64) -> u64 {
+    if x.is_nan() {
+        0x7ff8_0000_0000_0000
+    } else {
+        x.to_bits()
+    }
+}
+
+fn line(number: u64, values: impl IntoIterator<Item = f64>) -> Line {
+    std::iter::once(number)
+        .chain(values.into_iter().map(bits))
+        .collect()
+}
+
+/// The line of a kernel's answer, or of its refusal, after which the record has +0 for each of `n` values.
+fn kernel_line<A>(answer: Result<A, Refusal>, n: usize, flat: impl Fn(A) -> Vec<f64>) -> Line {
+    match answer {
+        Ok(answer) => line(0, flat(answer)),
+        Err(refusal) => line(refusal.number().into(), vec![0.0; n]),
+    }
+}
+
+fn flat_energy((w, dw, ddw): Energy) -> Vec<f64> {
+    let mut flat = vec![w];
+    flat.extend(dw.concat());
+    flat.extend(ddw.concat().concat());
+    flat
+}
+
+fn root_line(r: &mut Records) -> Option<Line> {
+    let x = r.word()?;
+    let word = root::sqrt_word(x);
+    let number = root::sqrt(f64::from_bits(x));
+    assert_eq!(number.to_bits(), word, "both forms of the root of {x:016x}");
+    Some(vec![0, word])
+}
+
+fn bending_line(r: &mut Records) -> Option<Line> {
+    let (ini, def) = (r.points()?, r.points()?);
+    let answer = quadratic_bending::wdw(&ini, &def);
+    Some(kernel_line(answer, 39, |(w, dwdp)| {
+        [w.to_vec(), dwdp.concat().concat()].concat()
+    }))
+}
+
+fn strain_line(r: &mut Records) -> Option<Line> {
+    let (ini, def) = (r.points()?, r.points()?);
+    let answer = stvk_tri3::wdw(&ini, &def);
+    Some(kernel_line(answer, 30, |(w, dw)| {
+        [w.to_vec(), dw.concat().concat()].concat()
+    }))
+}
+
+fn stvk_line(r: &mut Records) -> Option<Line> {
+    let (p0, p1) = (r.points()?, r.points()?);
+    let answer = stvk_tri3::wdwddw_(p0, p1, r.number()?, r.number()?);
+    Some(kernel_line(answer, 91, flat_energy))
+}
+
+fn plate_line(r: &mut Records) -> Option<Line> {
+    let (p, u) = (r.points::<2, 3>()?, r.points()?);
+    let (thk, lambda, myu) = (r.number()?, r.number()?, r.number()?);
+    let answer = mitc_tri3::w_dw_ddw_plate_bending(&[&p[0], &p[1], &p[2]], &u, thk, lambda, myu);
+    Some(kernel_line(answer, 91, flat_energy))
+}
+
+fn masses_line(r: &mut Records) -> Option<Line> {
+    let (n, t, b) = (r.count()?, r.count()?, r.count()?);
+    let (thick, rho) = (r.number()?, r.number()?);
+    let vtx2xy = r.numbers(n)?;
+    let tri2vtx: Vec<usize> = (0..t).map(|_| r.count()).collect::<Option<_>>()?;
+    let mut mass = r.numbers(b)?;
+    let answer = mitc_tri3::mass_lumped_plate_bending(&tri2vtx, &vtx2xy, thick, rho, &mut mass);
+    Some(line(
+        answer.err().map_or(0, |refusal| refusal.number().into()),
+        mass,
+    ))
+}
+
+#[test]
+fn every_record_is_answered_as_the_oracle_does() {
+    let replay = Path::new(env!("CARGO_MANIFEST_DIR")).join("../crates/replay");
+    let records = std::fs::read(replay.join("stdin")).expect("the records");
+    let answers = std::fs::read_to_string(replay.join("stdout")).expect("the answers");
+    let mut records = Records(&records);
+    let mut ran = [0; 7];
+    let mut answers = answers.lines().enumerate();
+    for (at, want) in answers.by_ref().take_while(|(_, want)| *want != "?") {
+        let kind = records.word().expect("a record for each answer");
+        let got = match kind {
+            1 => root_line(&mut records),
+            2 => bending_line(&mut records),
+            3 => strain_line(&mut records),
+            4 => stvk_line(&mut records),
+            5 => plate_line(&mut records),
+            6 => masses_line(&mut records),
+            9 => {
+                let helper = records.count().expect("a helper");
+                records.numbers(HELPER_INPUTS[helper]).expect("its inputs");
+                continue;
+            }
+            _ => panic!("line {}: no routine has the number {kind}", at + 1),
+        };
+        let got = got.expect("a whole record");
+        assert_eq!(got, read(want), "line {}, kind {kind}", at + 1);
+        ran[kind as usize] += 1;
+    }
+    assert!(answers.next().is_none(), "no answer follows the line `?`");
+    println!("records compared, by kind: {:?}", &ran[1..]);
+    assert!(
+        ran[1..].iter().all(|&n| n > 0),
+        "a kind has no record: {ran:?}"
+    );
+}
