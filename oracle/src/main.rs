@@ -15,6 +15,7 @@ mod random;
 mod record;
 mod root;
 mod roots;
+mod sheet;
 #[cfg(test)]
 mod tests;
 mod traced;
@@ -34,6 +35,7 @@ const USAGE: &str = "usage:
   oracle panel TRIANGLES COUNT        a run of COUNT calls of masses on a grid of so many triangles
   oracle panel TRIANGLES COUNT nan    the same with a vertex that is not named and has no finite number
   oracle limits                       the lines of `limits`
+  oracle sheet                        the lines of `panel`
 KINDS is a list such as 1,9 or the word all.";
 
 fn main() -> ExitCode {
@@ -83,6 +85,10 @@ fn run(arguments: &[&str]) -> Result<ExitCode, String> {
         }
         ["limits"] => {
             print!("{}", limits::lines());
+            Ok(ExitCode::SUCCESS)
+        }
+        ["sheet"] => {
+            print!("{}", sheet::lines());
             Ok(ExitCode::SUCCESS)
         }
         ["compare", expected, actual] => compare_files(expected, actual),

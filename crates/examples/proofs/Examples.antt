@@ -1,0 +1,83 @@
+-- The marked examples hold (01-scope 8.3): every row of the table, by computing.
+use mathlib.Core.Path.{_≡_, refl, ap}
+use Prim.Native.Nat.{ℕ}
+use lib.Count.{trailingZeros}
+use lib.Ieee.{binary64, size, span, climb, odd, units, round, sum, add, sub, neg, mul, div, ofBits, ofFields, toBits}
+use Rattle.float.specs.Lists.{every, table as tabled, each, fold, foldThrees}
+use Rattle.root.specs.Root.{isqrt, nearestRoot, rootOf}
+use Rattle.refusal.specs.Refusal.{accepted, zeroDivisor, firstOf, kernelNumber}
+use Rattle.refusal.specs.Answers.{badEnergyOf, energyOf}
+use Rattle.refusal.specs.Panel.{withinLimits}
+use Rattle.refusal.specs.declared.Energy.{Energy}
+use Rattle.del_geo_core.specs.Vec3 as vec3
+use Rattle.del_geo_core.specs.Tri2 as tri2
+use Rattle.del_geo_core.specs.Tri3 as tri3
+use Rattle.del_geo_core.specs.Edge as edge
+use Rattle.del_geo_core.specs.CurveLinearCoords as coords
+use Rattle.del_geo_core.specs.Mat3RowMajor as mat3
+use Rattle.plate.specs.Bending as bend
+use Rattle.plate.specs.Shear as shear
+use Rattle.plate.specs.Plate as plates
+use Rattle.mitc_tri3.specs.Plate as mitc
+use Rattle.mitc_tri3.specs.Places.{addVertex, addTriangle}
+use Rattle.mitc_tri3.specs.Masses.{cornersAt, badLengthOf, namedFinite, badInputOf, massOf, addMasses, addAll, massesOf, numberOf, bufferOf}
+use Rattle.stvk_tri3.specs.Edges as edges
+use Rattle.stvk_tri3.specs.Strain as strain
+use Rattle.stvk_tri3.specs.Stvk as energy
+use Rattle.quadratic_bending.specs.Bending as bending
+use Rattle.examples.specs.Words.{double, +0, +1, +2}
+use Rattle.examples.specs.Table.{Hold, p, u, plate, p0, p1, stvk, tableOf, table}
+
+-- Examples 8 and 9 take all 91 values for the number alone, and each value takes the number: so the number is computed once, and then put in its place.
+plate-accepted : plate +2 .number ≡ accepted
+unfolding plate trailingZeros size span climb odd units round sum add sub neg mul div ofBits ofFields every tabled each fold isqrt nearestRoot rootOf
+    firstOf kernelNumber badEnergyOf energyOf vec3.isFiniteOf vec3.overOf tri2.isFiniteOf tri3.isFiniteOf coords.contravariantOf coords.inverseOf mat3.multVecOf
+    bend.coeffaOf bend.coeffbOf bend.deDtOf bend.bendingOf bend.t0s bend.strainOf bend.dstrainOf bend.wOf bend.dwOf bend.ddwOf
+    shear.coeffaOf shear.coeffbOf shear.shearOf shear.rs shear.ss shear.strainOf shear.stressOf shear.deRt01Of shear.deSt20Of shear.dcoeffERtOf shear.dstrainOf shear.wOf shear.dwOf shear.ddwOf
+    plates.gdOf plates.guGuOf plates.guOf plates.stateOf plates.accumulatedOf plates.wOf plates.dwOf plates.ddwOf mitc.badInputOf mitc.zeroDivisorOf mitc.wDwDdwPlateBendingOf
+plate-accepted = refl
+
+plate-refused : plate +0 .number ≡ zeroDivisor
+unfolding plate trailingZeros size span climb odd units round sum add sub neg mul div ofBits ofFields firstOf kernelNumber energyOf vec3.isFiniteOf vec3.overOf
+    tri2.isFiniteOf tri3.isFiniteOf coords.contravariantOf coords.inverseOf plates.gdOf plates.guOf plates.stateOf mitc.badInputOf mitc.zeroDivisorOf mitc.wDwDdwPlateBendingOf
+plate-refused = refl
+
+stvk-accepted : stvk .number ≡ accepted
+unfolding stvk trailingZeros size span climb odd units round sum add sub neg mul div ofBits ofFields every tabled each isqrt nearestRoot rootOf
+    firstOf kernelNumber badEnergyOf energyOf vec3.isFiniteOf vec3.normOf vec3.overOf vec3.unitOf tri3.isFiniteOf tri3.normalOf tri3.unitNormalAreaOf
+    coords.contravariantOf mat3.multVecOf edges.edgesOf edges.glstrainOf energy.alongOf energy.badInputOf energy.zeroDivisorOf energy.restOf energy.glstrainOf energy.gugu0Of
+    energy.elasticityTensorOf energy.stateOf energy.wOf energy.dNdrOf energy.dwAtOf energy.dwOf energy.dtmp0Of energy.dtmp1Of energy.rowOf energy.blockOf energy.ddwOf energy.wdwddwOf
+stvk-accepted = refl
+
+abbrev plateAs : (thk n : ℕ) → Energy
+plateAs thk n =
+    let s = plates.stateOf binary64 p u (double thk) (double +0) (double +1) in
+    energyOf binary64 n (plates.wOf binary64 s) (plates.dwOf binary64 s) (plates.ddwOf binary64 s)
+
+plate-as : (thk : ℕ) {n : ℕ} → plate thk .number ≡ n → plate thk ≡ plateAs thk n
+unfolding plate mitc.wDwDdwPlateBendingOf energyOf
+plate-as thk is = ap (plateAs thk) is
+
+abbrev stvkAs : (n : ℕ) → Energy
+stvkAs n =
+    let s = energy.stateOf binary64 p0 p1 (double +0) (double +1) in
+    energyOf binary64 n (energy.wOf binary64 s) (energy.dwOf binary64 s) (energy.ddwOf binary64 s)
+
+stvk-as : {n : ℕ} → stvk .number ≡ n → stvk ≡ stvkAs n
+unfolding stvk energy.wdwddwOf energyOf
+stvk-as is = ap stvkAs is
+
+numbers-given : Hold (tableOf (plateAs +2 accepted) (plateAs +0 zeroDivisor) (stvkAs accepted))
+unfolding tableOf trailingZeros size span climb odd units round sum add sub neg mul div ofBits ofFields toBits every tabled each fold foldThrees isqrt nearestRoot rootOf
+    firstOf kernelNumber energyOf withinLimits vec3.isFiniteOf vec3.normOf vec3.overOf vec3.unitOf tri2.isFiniteOf tri3.isFiniteOf tri3.normalOf tri3.areaOf tri3.unitNormalAreaOf
+    edge.lengthOf coords.contravariantOf coords.inverseOf mat3.multVecOf bend.coeffaOf bend.coeffbOf bend.deDtOf bend.bendingOf bend.t0s bend.strainOf bend.wOf
+    shear.coeffaOf shear.coeffbOf shear.shearOf shear.rs shear.ss shear.strainOf shear.stressOf shear.wOf plates.gdOf plates.guGuOf plates.guOf plates.stateOf plates.accumulatedOf
+    plates.wOf addVertex addTriangle cornersAt badLengthOf namedFinite badInputOf massOf addMasses addAll massesOf numberOf bufferOf edges.edgesOf edges.glstrainOf
+    strain.badInputOf strain.zeroDivisorOf strain.badAnswerOf strain.gd0Of strain.restOf strain.gugu0XxOf strain.gugu0YyOf strain.gugu0XyOf strain.wOf strain.hogeOf strain.dwKOf
+    strain.dwOf strain.valuesOf strain.strainOf strain.wdwOf energy.alongOf energy.restOf energy.glstrainOf energy.gugu0Of energy.elasticityTensorOf energy.stateOf energy.wOf
+    energy.dNdrOf energy.dwAtOf energy.dwOf bending.isFiniteOf bending.zeroDivisorOf bending.divisorsOf bending.kOf bending.wOf bending.dwdpOf bending.bendingOf bending.wdwOf
+numbers-given = refl
+
+-- THE theorem of the marked examples
+pub examples-hold : Hold table
+examples-hold = rw (plate-as +2 plate-accepted, plate-as +0 plate-refused, stvk-as stvk-accepted) numbers-given

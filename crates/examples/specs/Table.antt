@@ -1,0 +1,141 @@
+-- The marked examples of 01-scope 7, in its order: what the definitions that the contracts cite give, beside what 01-scope says. Doubles stand as words, so that the sign of a
+-- zero and the bits of the NaN count.
+use mathlib.Core.Path.{_≡_}
+use mathlib.Core.List.{List, [], _∷_, map}
+use Prim.Native.Nat.{ℕ, _*_}
+use lib.Ieee.{Float, binary64}
+use lib.ListN.{replicate}
+use Rattle.float.specs.Lists.{_!_, total}
+use Rattle.root.specs.Root.{rootOf}
+use Rattle.refusal.specs.declared.Energy.{Energy}
+use Rattle.del_geo_core.specs.Tri2 as tri2
+use Rattle.del_geo_core.specs.Tri3 as tri3
+use Rattle.del_geo_core.specs.declared.tri2.Tri2.{Tri2}
+use Rattle.del_geo_core.specs.declared.tri3.Tri3.{Tri3}
+use Rattle.mitc_tri3.specs.Masses.{numberOf, bufferOf}
+use Rattle.mitc_tri3.specs.Plate.{wDwDdwPlateBendingOf}
+use Rattle.stvk_tri3.specs.Strain as strain
+use Rattle.stvk_tri3.specs.Stvk.{wdwddwOf}
+use Rattle.stvk_tri3.specs.declared.Strain.{Strain}
+use Rattle.quadratic_bending.specs.Bending as bending
+use Rattle.quadratic_bending.specs.declared.Bending.{Bending}
+use Rattle.examples.specs.Words.{double, doubles, word, words, +0, +1, +2, +3, +4, +6, +7, +12, +24, +72, -0, -1, -2, -3, -12}
+
+-- what is given, and what 01-scope says
+pub record Row : Type 0 where
+  pub given : List ℕ
+  pub said : List ℕ
+
+-- row by row, what is given is what is said
+abbrev pub Hold : List Row → Type 0
+Hold rows = map (λ row. row .given) rows ≡ map (λ row. row .said) rows
+
+infix 68 _is_
+abbrev _is_ : List ℕ → List ℕ → Row
+given is said = record { given = given; said = said }
+
+-- 1 to 4: four points, density 2, thickness 1, and a buffer of sevens on entry
+abbrev points : List Float
+points = doubles (+0 ∷ +0 ∷ +6 ∷ +0 ∷ +0 ∷ +6 ∷ +6 ∷ +6 ∷ [])
+
+abbrev sevens : List ℕ
+sevens = replicate 12 +7
+
+abbrev bufferAfter : (names : List ℕ) → List Float
+bufferAfter names = bufferOf binary64 names points (double +1) (double +2) (doubles sevens)
+
+-- the number, and the buffer on return; entries that the examples leave out are by 01-scope 5.3
+abbrev masses : (names : List ℕ) → List ℕ
+masses names = numberOf binary64 names points (double +1) (double +2) (doubles sevens) ∷ words (bufferAfter names)
+
+-- the translational masses, added from +0 in the vertices' order
+abbrev sumAfter : (names : List ℕ) → Float
+sumAfter names = total binary64 (λ v. bufferAfter names ! (v * 3)) (0 ∷ 1 ∷ 2 ∷ 3 ∷ [])
+
+abbrev root : ℕ → List ℕ
+root x = word (rootOf binary64 (double x)) ∷ []
+
+-- the triangle of 8 and 10
+abbrev pub p : Tri2
+p = tri2.cornersOf (doubles (+0 ∷ +0 ∷ []) ∷ doubles (+1 ∷ +0 ∷ []) ∷ doubles (+0 ∷ +1 ∷ []) ∷ [])
+
+-- 8, only corner 1 is moved in z: of its three numbers in u the first is the displacement, the others turn it
+abbrev pub u : Tri3
+u = tri3.cornersOf (doubles (+0 ∷ +0 ∷ +0 ∷ []) ∷ doubles (+1 ∷ +0 ∷ +0 ∷ []) ∷ doubles (+0 ∷ +0 ∷ +0 ∷ []) ∷ [])
+
+unfoldable pub plate : (thk : ℕ) → Energy
+plate thk = wDwDdwPlateBendingOf binary64 p u (double thk) (double +0) (double +1)
+
+-- the sheet of 9 at rest in space, and pulled to twice its length in x, as in 10
+abbrev pub p0 : Tri3
+p0 = tri3.cornersOf (doubles (+0 ∷ +0 ∷ +0 ∷ []) ∷ doubles (+1 ∷ +0 ∷ +0 ∷ []) ∷ doubles (+0 ∷ +1 ∷ +0 ∷ []) ∷ [])
+
+abbrev pub p1 : Tri3
+p1 = tri3.cornersOf (doubles (+0 ∷ +0 ∷ +0 ∷ []) ∷ doubles (+2 ∷ +0 ∷ +0 ∷ []) ∷ doubles (+0 ∷ +1 ∷ +0 ∷ []) ∷ [])
+
+unfoldable pub stvk : Energy
+stvk = wdwddwOf binary64 p0 p1 (double +0) (double +1)
+
+abbrev strains : Strain
+strains = strain.wdwOf binary64 p p1
+
+abbrev bends : Bending
+bends =
+    let origin = doubles (+0 ∷ +0 ∷ +0 ∷ []) in
+    let ini = doubles (+0 ∷ +2 ∷ +0 ∷ []) ∷ doubles (+0 ∷ -2 ∷ +0 ∷ []) ∷ origin ∷ doubles (+2 ∷ +0 ∷ +0 ∷ []) ∷ [] in
+    let def = doubles (+0 ∷ +0 ∷ +1 ∷ []) ∷ origin ∷ origin ∷ origin ∷ [] in
+    bending.wdwOf binary64 (bending.cornersOf ini) (bending.cornersOf def)
+
+-- the table, over the answers of 8 at thickness 2 and 0 and that of 9
+unfoldable pub tableOf : (plate2 plate0 stvk : Energy) → List Row
+tableOf plate2 plate0 stvk =
+    -- 1. names 0 1 2: vertices 0 to 2 hold 12, 1, 1, vertex 3 holds 0, 0, 0
+    masses (0 ∷ 1 ∷ 2 ∷ []) is (0
+    ∷ +12 ∷ +1 ∷ +1
+    ∷ +12 ∷ +1 ∷ +1
+    ∷ +12 ∷ +1 ∷ +1
+    ∷ +0 ∷ +0 ∷ +0 ∷ [])
+    -- 2. names 0 2 1: vertices 0 to 2 hold -12, -1, -1
+    ∷ masses (0 ∷ 2 ∷ 1 ∷ []) is (0
+    ∷ -12 ∷ -1 ∷ -1
+    ∷ -12 ∷ -1 ∷ -1
+    ∷ -12 ∷ -1 ∷ -1
+    ∷ +0 ∷ +0 ∷ +0 ∷ [])
+    -- 3. names 0 1 2 1 3 2: translational masses 12, 24, 24, 12, together 72
+    ∷ masses (0 ∷ 1 ∷ 2 ∷ 1 ∷ 3 ∷ 2 ∷ []) is (0
+    ∷ +12 ∷ +1 ∷ +1
+    ∷ +24 ∷ +2 ∷ +2
+    ∷ +24 ∷ +2 ∷ +2
+    ∷ +12 ∷ +1 ∷ +1 ∷ [])
+    ∷ (word (sumAfter (0 ∷ 1 ∷ 2 ∷ 1 ∷ 3 ∷ 2 ∷ [])) ∷ []) is (+72 ∷ [])
+    -- 4. no names: twelve zeros; four names: number 1; a name 4: number 2; a name 3: accepted
+    ∷ masses [] is (0 ∷ replicate 12 +0)
+    ∷ masses (0 ∷ 1 ∷ 2 ∷ 3 ∷ []) is (1 ∷ sevens)
+    ∷ masses (0 ∷ 1 ∷ 4 ∷ []) is (2 ∷ sevens)
+    ∷ masses (0 ∷ 1 ∷ 3 ∷ []) is (0
+    ∷ +12 ∷ +1 ∷ +1
+    ∷ +12 ∷ +1 ∷ +1
+    ∷ +0 ∷ +0 ∷ +0
+    ∷ +12 ∷ +1 ∷ +1 ∷ [])
+    -- 5. root of 4 is 2; of 2
+    ∷ root +4 is (+2 ∷ [])
+    ∷ root +2 is (0x3ff6_a09e_667f_3bcd ∷ [])
+    -- 6. root of 2^-1074 is 2^-537; of the largest finite double
+    ∷ root 0x1 is (0x1e60_0000_0000_0000 ∷ [])
+    ∷ root 0x7fef_ffff_ffff_ffff is (0x5fef_ffff_ffff_ffff ∷ [])
+    -- 7. root of -0 is -0; of -1 the NaN
+    ∷ root -0 is (-0 ∷ [])
+    ∷ root -1 is (0x7ff8_0000_0000_0000 ∷ [])
+    -- 8. plate: energy 2; the same at thickness 0: number 4
+    ∷ (plate2 .number ∷ word (plate2 .w) ∷ []) is (0 ∷ +2 ∷ [])
+    ∷ (plate0 .number ∷ word (plate0 .w) ∷ []) is (4 ∷ +0 ∷ [])
+    -- 9. StVK: energy 1.125, gradient in x -3, 3, 0
+    ∷ (stvk .number ∷ words (stvk .w ∷ stvk .dw ! 0 ∷ stvk .dw ! 3 ∷ stvk .dw ! 6 ∷ [])) is (0 ∷ 0x3ff2_0000_0000_0000 ∷ -3 ∷ +3 ∷ +0 ∷ [])
+    -- 10. the strain of that pair: 1.5, 0, 0
+    ∷ (strains .number ∷ words (strains .w)) is (0 ∷ 0x3ff8_0000_0000_0000 ∷ +0 ∷ +0 ∷ [])
+    -- 11. bending: third value
+    ∷ (bends .number ∷ word (bends .w ! 2) ∷ []) is (0 ∷ 0xbfeb_b67a_e858_4caa ∷ [])
+    ∷ []
+
+abbrev pub table : List Row
+table = tableOf (plate +2) (plate +0) stvk

@@ -1,0 +1,20 @@
+-- `sum_of_translations` is safe and ends: a turn reads within the three places of its vertex.
+use mathlib.Core.Path.{_≡_, refl}
+use Prim.Native.Nat.{_≤_, _-_, _/_}
+use native.Mathlib.Omega.{arith}
+use lib.ListN.{length}
+use Rattle.panel.proofs.sum_of_translations.Statement.{statement}
+use Rattle.panel.proofs.sum_of_translations.Tie as tie
+
+pub sum-of-translations-spec : {M : Type 1} → statement M
+sum-of-translations-spec = tie.close (tie.spec
+    (λ vtx2mass sum₀ v₀ v-end sum v. (v ≤ v-end) × (v-end ≡ length vtx2mass / 3))
+    (λ vtx2mass sum₀ v₀ v-end sum v. v-end - v)
+    (λ c. (omega arith, refl))
+    (λ c. omega (arith, c .before .before .good))
+    (λ c. omega (arith, c .before .before .good))
+    (λ c. omega arith)
+    (λ c. omega arith)
+    (λ c. omega arith)
+    (λ c. (omega arith, refl))
+    (λ c. tt))

@@ -1,0 +1,159 @@
+// Sizes the panels that are built in here and prints them for a person: the masses of each vertex (01-scope 5.3), or in words why there are none (01-scope 2.1).
+mod number;
+
+use libc::STDOUT_FILENO;
+
+fn text(bytes: &[u8]) {
+    io::write_all(STDOUT_FILENO, bytes);
+}
+
+// Ends an entry of a table that has used so many places of its column.
+fn end_entry(used: usize, column: usize) {
+    for _ in used..column {
+        text(b" ");
+    }
+    text(b"  ");
+}
+
+fn put_row(vertex: usize, translation: f64, rotation_x: f64, rotation_y: f64) {
+    end_entry(number::put_whole(vertex as u64), 6);
+    end_entry(number::put(translation), 16);
+    end_entry(number::put(rotation_x), 16);
+    number::put(rotation_y);
+    text(b"\n");
+}
+
+fn put_table(vtx2mass: &[f64]) {
+    text(b"vertex  translation       rotation x        rotation y\n");
+    for v in 0..vtx2mass.len() / 3 {
+        put_row(v, vtx2mass[v * 3], vtx2mass[v * 3 + 1], vtx2mass[v * 3 + 2]);
+    }
+}
+
+// From +0, in the vertices' order.
+fn sum_of_translations(vtx2mass: &[f64]) -> f64 {
+    let mut sum = 0.0;
+    for v in 0..vtx2mass.len() / 3 {
+        sum = sum + vtx2mass[v * 3];
+    }
+    sum
+}
+
+fn put_refusal(number: u32) {
+    text(b"refused: ");
+    match number {
+        1 => text(b"a length or a limit is wrong"),
+        2 => text(b"a triangle names a vertex that isn't there"),
+        3 => text(b"a number is NaN or infinite"),
+        _ => text(b"a mass is NaN or infinite"),
+    }
+    text(b" (");
+    number::put_whole(number as u64);
+    text(b")\n");
+}
+
+fn put_heading(vertices: usize, triangles: usize, thick: f64, rho: f64) {
+    text(b"vertices ");
+    number::put_whole(vertices as u64);
+    text(b", triangles ");
+    number::put_whole(triangles as u64);
+    text(b", density ");
+    number::put(rho);
+    text(b", thickness ");
+    number::put(thick);
+    text(b"\n");
+}
+
+fn put_sum(vtx2mass: &[f64]) {
+    text(b"sum of translations ");
+    number::put(sum_of_translations(vtx2mass));
+    text(b"\n");
+}
+
+fn size(tri2vtx: &[usize], vtx2xy: &[f64], thick: f64, rho: f64, vtx2mass: &mut [f64]) {
+    put_heading(vtx2xy.len() / 2, tri2vtx.len() / 3, thick, rho);
+    let number = mitc_tri3::mass_lumped_plate_bending(tri2vtx, vtx2xy, thick, rho, vtx2mass);
+    if number != 0 {
+        put_refusal(number);
+        return;
+    }
+    put_table(vtx2mass);
+    put_sum(vtx2mass);
+}
+
+// The points of 01-scope 7, density 2 and thickness 1.
+fn square(tri2vtx: [usize; 6]) {
+    let vtx2xy = [0.0, 0.0, 6.0, 0.0, 0.0, 6.0, 6.0, 6.0];
+    let mut vtx2mass = [0.0; 12];
+    size(&tri2vtx, &vtx2xy, 1.0, 2.0, &mut vtx2mass);
+}
+
+// The wall strip: two rows of eleven vertices, the hinge row first.
+fn column(c: usize) -> f64 {
+    match c {
+        0 => 0.0,
+        1 => 24.0,
+        2 => 48.0,
+        3 => 72.0,
+        4 => 96.0,
+        5 => 120.0,
+        6 => 144.0,
+        7 => 168.0,
+        8 => 192.0,
+        9 => 216.0,
+        _ => 240.0,
+    }
+}
+
+fn coordinate(i: usize) -> f64 {
+    if i % 2 == 0 {
+        return column(i / 2 % 11);
+    }
+    if i / 2 < 11 { 0.0 } else { 40.0 }
+}
+
+// Two triangles fill the cell to the right of each column.
+fn name(triangle: usize, corner: usize) -> usize {
+    let c = triangle / 2 % 10;
+    match triangle % 2 * 3 + corner % 3 {
+        0 => c,
+        1 => c + 1,
+        2 => c + 11,
+        3 => c + 1,
+        4 => c + 12,
+        _ => c + 11,
+    }
+}
+
+fn fill_xy(vtx2xy: &mut [f64]) {
+    for i in 0..vtx2xy.len() {
+        vtx2xy[i] = coordinate(i);
+    }
+}
+
+fn fill_names(tri2vtx: &mut [usize]) {
+    for i in 0..tri2vtx.len() {
+        tri2vtx[i] = name(i / 3, i % 3);
+    }
+}
+
+fn strip() {
+    let mut vtx2xy = [0.0; 44];
+    let mut tri2vtx = [0usize; 60];
+    let mut vtx2mass = [0.0; 66];
+    fill_xy(&mut vtx2xy);
+    fill_names(&mut tri2vtx);
+    size(&tri2vtx, &vtx2xy, 0.5, 1.0 / 512.0, &mut vtx2mass);
+}
+
+fn main() {
+    text(b"Square panel\n");
+    square([0, 1, 2, 1, 3, 2]);
+    text(b"\nWall strip, 240 by 40 cm, masses in kg\n");
+    text(b"hinge row: vertices 0 to 10\n");
+    strip();
+    text(b"\nSquare panel, turned round\n");
+    square([0, 2, 1, 1, 2, 3]);
+    text(b"\nSquare panel, a name too far\n");
+    square([0, 1, 2, 1, 4, 2]);
+}
