@@ -3,11 +3,13 @@
  *
  * Each routine's source is proved to give what docs/01-scope.md says, on every input, to end, and to read and write nothing but what it is lent; the compiler and the border to C are not
  * part of the proof (c/run looks at them). There is no state between calls: several threads may call at once, each with a buffer of its own.
+ * Nothing is allocated; of the C library memcpy and memset are used, no more.
  *
  * What the caller owes:
  *   - every pointer is aligned, is not null (not even for a list of no entries) and has as many entries behind it as is stated here;
  *   - the lent buffer overlaps no other argument (the others may overlap each other);
- *   - floating point is as a program starts with it: rounding to nearest, subnormal numbers not flushed to zero.
+ *   - floating point is as a program starts with it: rounding to nearest, no exception unmasked (a kernel divides before it refuses), subnormal numbers not flushed to zero (a program that is
+ *     linked with -ffast-math may flush them). Exception flags may be left raised.
  *
  * A kernel (the four with `values`) returns its number and fills all of `values`, whatever was in them: the answer's numbers in the order stated where it returns 0, +0 throughout where it refuses.
  * ISO C before C23 lets only arrays that are themselves const pass for `const double p[3][2]`; compilers complain about others under -pedantic alone.

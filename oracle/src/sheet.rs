@@ -6,7 +6,7 @@ use std::fmt::Write as _;
 
 const REFUSALS: [(u64, &str); 4] = [
     (1, "a length or a limit is wrong"),
-    (2, "a triangle names a vertex that isn't there"),
+    (2, "a triangle names a vertex that does not exist"),
     (3, "a number is NaN or infinite"),
     (5, "a mass is NaN or infinite"),
 ];
@@ -15,7 +15,7 @@ pub fn lines() -> String {
     [
         "Square panel\n",
         &square([0, 1, 2, 1, 3, 2]),
-        "\nWall strip, 240 by 40 cm, masses in kg\n",
+        "\nWall strip, 240 by 40 by 0.5 cm, in kg and cm\n",
         "hinge row: vertices 0 to 10\n",
         &strip(),
         "\nSquare panel, turned round\n",

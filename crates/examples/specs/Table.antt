@@ -89,13 +89,13 @@ bends =
 -- the table, over the answers of 8 at thickness 2 and 0 and that of 9
 unfoldable pub tableOf : (plate2 plate0 stvk : Energy) → List Row
 tableOf plate2 plate0 stvk =
-    -- 1. names 0 1 2: vertices 0 to 2 hold 12, 1, 1, vertex 3 holds 0, 0, 0
+    -- 1. names 0 1 2: vertices 0, 1, 2: 12, 1, 1 each; vertex 3: 0, 0, 0
     masses (0 ∷ 1 ∷ 2 ∷ []) is (0
     ∷ +12 ∷ +1 ∷ +1
     ∷ +12 ∷ +1 ∷ +1
     ∷ +12 ∷ +1 ∷ +1
     ∷ +0 ∷ +0 ∷ +0 ∷ [])
-    -- 2. names 0 2 1: vertices 0 to 2 hold -12, -1, -1
+    -- 2. names 0 2 1: vertices 0, 1, 2: -12, -1, -1 each
     ∷ masses (0 ∷ 2 ∷ 1 ∷ []) is (0
     ∷ -12 ∷ -1 ∷ -1
     ∷ -12 ∷ -1 ∷ -1

@@ -45,7 +45,7 @@ module _ (f : Format) where
   over (suc k) = 72 * unit f ^ 5
 
   module _ (tri2vtx : List ℕ) (vtx2xy : List Float) (thick rho : Float) where
-    -- a vertex's mass is the sum over its d names; and the sum of the sizes
+    -- the shares of a vertex's d names, added: its exact mass; and their sizes
     abbrev pub exactMass : (k v : ℕ) → Num
     exactMass k v = exactSum (exactShare k thick rho) (trianglesOf v tri2vtx vtx2xy)
 

@@ -67,7 +67,7 @@ module _ (f : Format) (tri2vtx : List ℕ) (vtx2xy : List Float) (thick rho : Fl
         let start : keeps (cleared f before) [] = (length-replicate _ (ops f .zero) ∙ size, getD-replicate (length before) (v * 3 + k) (ops f .zero) nan (omega arith)) in
         threes-keep (addMasses f vtx2xy thick rho) _ (λ i. ltb i (verticesOf vtx2xy)) keeps (turn f thick rho v k k3 vtx2xy) tri2vtx _ [] names start .1
 
-  -- THE theorem for bounds on a vertex's masses: what stands there after an accepted panel
+  -- THE theorem of a vertex's masses: what stands there after an accepted panel
   pub vertex-holds : {r : ℕ} {after : List Float} → IsMasses f tri2vtx vtx2xy thick rho before r after → r ≡ accepted → (v k : ℕ) → v < verticesOf vtx2xy → k < 3
       → after ! (v * 3 + k) ≡ total f (shareOf f k thick rho) (trianglesOf v tri2vtx vtx2xy)
   vertex-holds is e v k h k3 =

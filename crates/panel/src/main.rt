@@ -43,7 +43,7 @@ fn put_refusal(number: u32) {
     text(b"refused: ");
     match number {
         1 => text(b"a length or a limit is wrong"),
-        2 => text(b"a triangle names a vertex that isn't there"),
+        2 => text(b"a triangle names a vertex that does not exist"),
         3 => text(b"a number is NaN or infinite"),
         _ => text(b"a mass is NaN or infinite"),
     }
@@ -149,7 +149,7 @@ fn strip() {
 fn main() {
     text(b"Square panel\n");
     square([0, 1, 2, 1, 3, 2]);
-    text(b"\nWall strip, 240 by 40 cm, masses in kg\n");
+    text(b"\nWall strip, 240 by 40 by 0.5 cm, in kg and cm\n");
     text(b"hinge row: vertices 0 to 10\n");
     strip();
     text(b"\nSquare panel, turned round\n");

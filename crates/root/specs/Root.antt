@@ -29,7 +29,7 @@ pub record Nearest (f : Format) (x r : Float) : Type 0 where
   pub close : Close M R
   pub fit : T (fits f r)
 
--- 4.1 and 4.2 by cases: both zeros and +infinity give themselves, any other negative number and any NaN give the NaN
+-- 4.1 and 4.2 by cases: both zeros and +infinity give themselves, everything else below zero and every NaN the NaN
 abbrev pub IsRoot : Format → Float → Float → Type 0
 IsRoot f nan r = r ≡ nan
 IsRoot f (inf true) r = r ≡ nan

@@ -36,7 +36,7 @@ module _ (f : Format) where
   open Ops (ops f) using (_⊕_, zero as nought)
 
   infixl 75 _⊕_
-  -- No values give +0, one value is itself, else the first half (rounded down) and the rest are each summed this way and added.
+  -- +0 for an empty list, the number itself for one; a longer list is split at half its length, rounded down, and the sums of both parts are added.
   -- n bounds the depth: as many levels as there are values suffice.
   unfoldable pub halve : ℕ → List Float → Float
   halve zero l = nought
