@@ -22,8 +22,8 @@ parts d a b p q e h =
     last (paste d p a (length a)) b q (h ∙ sym (length-paste d p a (length a) k l)) ∙ rw (sym e, take-paste d p a (length a) m l, take-length a)
 
 -- with one number before them
-pub three : (d a b : List Float) (x : Float) (q : ℕ) → 1 + length a ≡ q → q + length b ≡ length (set d 0 x)
+pub number-and-parts : (d a b : List Float) (x : Float) (q : ℕ) → 1 + length a ≡ q → q + length b ≡ length (set d 0 x)
     → paste (paste (set d 0 x) 1 a (length a)) q b (length b) ≡ x ∷ a ++ b
-three d a b x q e h =
+number-and-parts d a b x q e h =
     let k : 0 < length d = omega (arith, e, h, length-set d 0 x) in
     parts (set d 0 x) a b 1 q e h ∙ rw (take-suc-set d 0 x k)

@@ -4,7 +4,7 @@ use Prim.Native.Nat.{ℕ}
 use lib.Count.{trailingZeros}
 use lib.Ieee.{binary64, size, span, climb, odd, units, round, sum, add, sub, neg, mul, div, ofBits, ofFields, toBits}
 use Rattle.float.specs.Lists.{every, table as tabled, each, fold, foldThrees}
-use Rattle.root.specs.Root.{isqrt, nearestRoot, rootOf}
+use Rattle.root.specs.Root.{isqrt, nearestRoot, rootOf, rootWordOf}
 use Rattle.refusal.specs.Refusal.{accepted, zeroDivisor, firstOf, kernelNumber}
 use Rattle.refusal.specs.Answers.{badEnergyOf, energyOf}
 use Rattle.refusal.specs.Panel.{withinLimits}
@@ -68,7 +68,7 @@ unfolding stvk energy.wdwddwOf energyOf
 stvk-as is = ap stvkAs is
 
 numbers-given : Hold (tableOf (plateAs +2 accepted) (plateAs +0 zeroDivisor) (stvkAs accepted))
-unfolding tableOf trailingZeros size span climb odd units round sum add sub neg mul div ofBits ofFields toBits every tabled each fold foldThrees isqrt nearestRoot rootOf
+unfolding tableOf trailingZeros size span climb odd units round sum add sub neg mul div ofBits ofFields toBits every tabled each fold foldThrees isqrt nearestRoot rootOf rootWordOf
     firstOf kernelNumber energyOf withinLimits vec3.isFiniteOf vec3.normOf vec3.overOf vec3.unitOf tri2.isFiniteOf tri3.isFiniteOf tri3.normalOf tri3.areaOf tri3.unitNormalAreaOf
     edge.lengthOf coords.contravariantOf coords.inverseOf mat3.multVecOf bend.coeffaOf bend.coeffbOf bend.deDtOf bend.bendingOf bend.t0s bend.strainOf bend.wOf
     shear.coeffaOf shear.coeffbOf shear.shearOf shear.rs shear.ss shear.strainOf shear.stressOf shear.wOf plates.gdOf plates.guGuOf plates.guOf plates.stateOf plates.accumulatedOf

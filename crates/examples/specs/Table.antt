@@ -6,12 +6,13 @@ use Prim.Native.Nat.{ℕ, _*_}
 use lib.Ieee.{Float, binary64}
 use lib.ListN.{replicate}
 use Rattle.float.specs.Lists.{_!_, total}
-use Rattle.root.specs.Root.{rootOf}
+use Rattle.root.specs.Root.{rootWordOf}
 use Rattle.refusal.specs.declared.Energy.{Energy}
 use Rattle.del_geo_core.specs.Tri2 as tri2
 use Rattle.del_geo_core.specs.Tri3 as tri3
 use Rattle.del_geo_core.specs.declared.tri2.Tri2.{Tri2}
 use Rattle.del_geo_core.specs.declared.tri3.Tri3.{Tri3}
+use Rattle.mitc_tri3.specs.Example.{points, thick, rho}
 use Rattle.mitc_tri3.specs.Masses.{numberOf, bufferOf}
 use Rattle.mitc_tri3.specs.Plate.{wDwDdwPlateBendingOf}
 use Rattle.stvk_tri3.specs.Strain as strain
@@ -19,7 +20,7 @@ use Rattle.stvk_tri3.specs.Stvk.{wdwddwOf}
 use Rattle.stvk_tri3.specs.declared.Strain.{Strain}
 use Rattle.quadratic_bending.specs.Bending as bending
 use Rattle.quadratic_bending.specs.declared.Bending.{Bending}
-use Rattle.examples.specs.Words.{double, doubles, word, words, +0, +1, +2, +3, +4, +6, +7, +12, +24, +72, -0, -1, -2, -3, -12}
+use Rattle.examples.specs.Words.{double, doubles, word, words, +0, +1, +2, +3, +4, +7, +12, +24, +72, -0, -1, -2, -3, -12}
 
 -- what is given, and what 01-scope says
 pub record Row : Type 0 where
@@ -35,25 +36,22 @@ abbrev _is_ : List ℕ → List ℕ → Row
 given is said = record { given = given; said = said }
 
 -- 1 to 4: four points, density 2, thickness 1, and a buffer of sevens on entry
-abbrev points : List Float
-points = doubles (+0 ∷ +0 ∷ +6 ∷ +0 ∷ +0 ∷ +6 ∷ +6 ∷ +6 ∷ [])
-
 abbrev sevens : List ℕ
 sevens = replicate 12 +7
 
 abbrev bufferAfter : (names : List ℕ) → List Float
-bufferAfter names = bufferOf binary64 names points (double +1) (double +2) (doubles sevens)
+bufferAfter names = bufferOf binary64 names points thick rho (doubles sevens)
 
 -- the number, and the buffer on return; entries that the examples leave out are by 01-scope 5.3
 abbrev masses : (names : List ℕ) → List ℕ
-masses names = numberOf binary64 names points (double +1) (double +2) (doubles sevens) ∷ words (bufferAfter names)
+masses names = numberOf binary64 names points thick rho (doubles sevens) ∷ words (bufferAfter names)
 
 -- the translational masses, added from +0 in the vertices' order
 abbrev sumAfter : (names : List ℕ) → Float
 sumAfter names = total binary64 (λ v. bufferAfter names ! (v * 3)) (0 ∷ 1 ∷ 2 ∷ 3 ∷ [])
 
 abbrev root : ℕ → List ℕ
-root x = word (rootOf binary64 (double x)) ∷ []
+root x = rootWordOf binary64 x ∷ []
 
 -- the triangle of 8 and 10
 abbrev pub p : Tri2

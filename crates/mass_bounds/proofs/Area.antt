@@ -10,7 +10,7 @@ use lib.Ieee.Fits.{two, reach}
 use Rattle.float.specs.Ops.{Ops, ops}
 use Rattle.rounding.specs.Exact.{Num, Equal, _⊟_, _⊠_, scale, sizeOf, signed, value, Number}
 use Rattle.rounding.specs.Dyadic.{Dyad, Room}
-use Rattle.rounding.proofs.Num.{product-scale}
+use Rattle.rounding.proofs.Num.{difference-scale, product-scale}
 use Rattle.rounding.proofs.Nearest.{top-digit}
 use Rattle.rounding.proofs.Dyadic.{whole-room, dyad-sub, dyad-mul}
 use Rattle.del_geo_core.specs.Tri2.{areaOf}
@@ -18,9 +18,6 @@ use Rattle.del_geo_core.specs.declared.tri2.Tri2.{Tri2}
 use Rattle.mass_bounds.specs.Range.{unit}
 use Rattle.mass_bounds.specs.Shares.{twiceArea}
 use Rattle.mass_bounds.proofs.Premises.{whole, Coordinate, Corners, half-dyad}
-
-minus-scale : (a b n m : Num) (l : ℕ) → Equal a (scale l n) → Equal b (scale l m) → Equal (a ⊟ b) (scale l (n ⊟ m))
-minus-scale a b n m l h k = omega arith
 
 module _ (f : Format) where
   open Ops (ops f) using (_⊖_, _⊗_)
@@ -36,42 +33,42 @@ module _ (f : Format) where
     pub is : Equal (twiceArea f p) (scale (unit f * unit f) ones)
 
   module _ (B : ℕ) (wide : (B + B) * (B + B) + (B + B) * (B + B) < 2 ^ prec f) where
-    abbrev D : ℕ
-    D = B + B
+    abbrev W : ℕ
+    W = B + B
 
     half-room : Room f (low f - 1)
     half-room = omega (arith, whole-room f)
 
-    D< : D < 2 ^ prec f
-    D< = go D (2 ^ prec f) (pow-pos (prec f)) wide
+    W< : W < 2 ^ prec f
+    W< = go W (2 ^ prec f) (pow-pos (prec f)) wide
       where
         go : (d P : ℕ) → 0 < P → d * d + d * d < P → d < P
         go zero P p h = p
         go (suc d) P p h = omega arith
 
-    D*D< : D * D < 2 ^ prec f
-    D*D< = lt-of-le-of-lt (omega arith) wide
+    W*W< : W * W < 2 ^ prec f
+    W*W< = lt-of-le-of-lt (omega arith) wide
 
     -- a difference of coordinates, and a product of two
-    minus : {x y : Float} → Coordinate f B x → Coordinate f B y → Dyad f (x ⊖ y) (low f) (whole f x ⊟ whole f y) D
-    minus a b = dyad-sub f (whole-room f) a b D<
+    minus : {x y : Float} → Coordinate f B x → Coordinate f B y → Dyad f (x ⊖ y) (low f) (whole f x ⊟ whole f y) W
+    minus a b = dyad-sub f (whole-room f) a b W<
 
-    times : {x y : Float} {n m : Num} → Dyad f x (low f) n D → Dyad f y (low f) m D → Dyad f (x ⊗ y) (low f) (n ⊠ m) (D * D)
-    times a b = dyad-mul f (low f) refl (whole-room f) a b D*D<
+    times : {x y : Float} {n m : Num} → Dyad f x (low f) n W → Dyad f y (low f) m W → Dyad f (x ⊗ y) (low f) (n ⊠ m) (W * W)
+    times a b = dyad-mul f (low f) refl (whole-room f) a b W*W<
 
     -- exactly, in units of units
     exactly : {x0 x1 y0 y1 : Float} → Coordinate f B x0 → Coordinate f B x1 → Coordinate f B y0 → Coordinate f B y1
         → Equal ((value f x1 ⊟ value f x0) ⊠ (value f y1 ⊟ value f y0)) (scale (unit f * unit f) ((whole f x1 ⊟ whole f x0) ⊠ (whole f y1 ⊟ whole f y0)))
     exactly {x0} {x1} {y0} {y1} a0 a1 b0 b1 =
         product-scale _ _ (whole f x1 ⊟ whole f x0) (whole f y1 ⊟ whole f y0) (unit f) (unit f)
-        (minus-scale (value f x1) (value f x0) _ _ (unit f) (a1 .is) (a0 .is)) (minus-scale (value f y1) (value f y0) _ _ (unit f) (b1 .is) (b0 .is))
+        (difference-scale (value f x1) (value f x0) _ _ (unit f) (a1 .is) (a0 .is)) (difference-scale (value f y1) (value f y0) _ _ (unit f) (b1 .is) (b0 .is))
 
     pub area-exact : (p : Tri2) → Corners f B p → AreaOf p
     unfolding twiceArea
     area-exact p ((x0, y0), (x1, y1), (x2, y2)) =
         let twice = dyad-sub f (whole-room f) (times (minus x1 x0) (minus y2 y0)) (times (minus x2 x0) (minus y1 y0)) wide in
         let area = dyad-mul f (low f - 1) refl half-room (half-dyad f) twice (omega (arith, wide)) in
-        let is = minus-scale _ _ _ _ (unit f * unit f) (exactly x0 x1 y0 y2) (exactly x0 x2 y0 y1) in
+        let is = difference-scale _ _ _ _ (unit f * unit f) (exactly x0 x1 y0 y2) (exactly x0 x2 y0 y1) in
         record {
           number = area .number;
           ones = _;

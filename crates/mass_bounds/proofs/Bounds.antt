@@ -1,5 +1,5 @@
 -- Demand 3 of what `mass_lumped_plate_bending` leaves (01-scope 6): every place holds its vertex's sum of shares, and those sums are finite and near the exact masses.
-use mathlib.Core.Path.{_≡_}
+use mathlib.Core.Path.{_≡_, refl}
 use mathlib.Core.Bool.{true, false}
 use mathlib.Core.List.{List}
 use Prim.Native.Nat.{ℕ, _+_, _*_, _/_, _%_, _^_, _≤_, _<_}
@@ -13,23 +13,20 @@ use borrow.Author.Tests.{not-false}
 use Rattle.float.specs.Lists.{_!_, allFinite, every, total}
 use Rattle.float.proofs.Scan.{both, every-at, every-iff}
 use Rattle.refusal.specs.Refusal.{accepted}
-use Rattle.refusal.specs.Panel.{maxTriangles, withinLimits, namesBelow}
-use Rattle.refusal.proofs.Panel.{within}
-use Rattle.rounding.specs.Exact.{Number}
-use Rattle.mitc_tri3.specs.Masses.{pointAt, verticesOf, badLengthOf, pointFinite, namedFinite, badInputOf, massesOf, IsMasses}
+use Rattle.refusal.specs.Panel.{maxTriangles, namesBelow}
+use Rattle.mitc_tri3.specs.Example.{points, thick, rho}
+use Rattle.mitc_tri3.specs.Masses.{pointAt, verticesOf, badLengthOf, pointFinite, namedFinite, badInputOf, massesOf, bufferOf, IsMasses}
 use Rattle.mitc_tri3.specs.Vertex.{trianglesOf, shareOf}
 use Rattle.mitc_tri3.proofs.MassesAnswer.{sized, accepted-exactly, accepted-masses}
 use Rattle.mitc_tri3.proofs.Vertex.{masses-sized, masses-hold}
-use Rattle.mass_bounds.specs.Range.{isNumber, inRange}
+use Rattle.mass_bounds.specs.Range.{isNumber, wholeAt, inRange}
 use Rattle.mass_bounds.specs.Bounds.{NearExact, Demand3}
-use Rattle.mass_bounds.proofs.Premises.{wholeAt, point, in-range}
+use Rattle.mass_bounds.specs.Example.{names, untouched}
+use Rattle.mass_bounds.proofs.RuledOut.{meets, right-lengths, right-names}
+use Rattle.mass_bounds.proofs.Premises.{number-iff, point, in-range}
 use Rattle.mass_bounds.proofs.Share.{Margins}
 use Rattle.mass_bounds.proofs.Vertex.{vertex}
 use Rattle.mass_bounds.proofs.Sums.{add-up, sum-near}
-
-few-names : (vertices names places : ℕ) → badLengthOf vertices names places ≡ false → names ≤ maxTriangles * 3
-unfolding badLengthOf
-few-names vertices names places e = let l = within vertices names (both (withinLimits vertices names) _ (not-false _ e) .0) in omega (arith, l .1, l .2)
 
 module _ (f : Format) {B R N : ℕ} (m : Margins f B R N) (tri2vtx : List ℕ) (vtx2xy : List Float) (thick rho : Float) (before : List Float)
     (size : length before ≡ verticesOf vtx2xy * 3) (names : namesBelow (verticesOf vtx2xy) tri2vtx ≡ true) (few : length tri2vtx ≤ N)
@@ -41,7 +38,7 @@ module _ (f : Format) {B R N : ℕ} (m : Margins f B R N) (tri2vtx : List ℕ) (
   masses = massesOf f tri2vtx vtx2xy thick rho before
 
   -- ---- the masses of a panel in range, whether or not they are accepted
-  pub masses-near : NearExact f tri2vtx vtx2xy thick rho masses
+  masses-near : NearExact f tri2vtx vtx2xy thick rho masses
   masses-near = record {
     sized = masses-sized f tri2vtx vtx2xy thick rho before size names;
     numbers = every-iff (isNumber f) masses nan .1 place;
@@ -51,15 +48,12 @@ module _ (f : Format) {B R N : ℕ} (m : Margins f B R N) (tri2vtx : List ℕ) (
       holds : (v k : ℕ) → v < vertices → k < 3 → masses ! (v * 3 + k) ≡ total f (shareOf f k thick rho) (trianglesOf v tri2vtx vtx2xy)
       holds = masses-hold f tri2vtx vtx2xy thick rho before size names
 
-      number : (x : Float) → Number f x → isNumber f x ≡ true
-      number x n = rw (is-true (fits f x) (n .fit), is-true (finite x) (n .fine))
-
       place : (j : ℕ) → j < length masses → isNumber f (masses ! j) ≡ true
       place j h =
           let s : length masses ≡ vertices * 3 = masses-sized f tri2vtx vtx2xy thick rho before size names in
           let e : j / 3 * 3 + j % 3 ≡ j = omega arith in
           let v = vertex f m tri2vtx vtx2xy thick rho few range (j / 3) (j % 3) in
-          rw (← holds (j / 3) (j % 3) (omega arith) (omega arith), e) at (number _ (v .0))
+          rw (← holds (j / 3) (j % 3) (omega arith) (omega arith), e) at (number-iff f _ .1 (v .0))
 
   inputs-good : badInputOf tri2vtx vtx2xy thick rho ≡ false
   unfolding badInputOf namedFinite
@@ -85,7 +79,7 @@ module _ (tri2vtx : List ℕ) (vtx2xy : List Float) (thick rho : Float) (before 
   accepts : badLengthOf (verticesOf vtx2xy) (length tri2vtx) (length before) ≡ false → namesBelow (verticesOf vtx2xy) tri2vtx ≡ true → r ≡ accepted
   accepts lengths names =
       let size = sized _ _ _ lengths .1 in
-      let few = few-names _ _ _ lengths in
+      let few = sized _ _ _ lengths .2 in
       accepted-exactly binary64 tri2vtx vtx2xy thick rho before is .1 (
         lengths,
         rw names,
@@ -97,7 +91,7 @@ module _ (tri2vtx : List ℕ) (vtx2xy : List Float) (thick rho : Float) (before 
   near e =
       let tests = accepted-exactly binary64 tri2vtx vtx2xy thick rho before is .0 e in
       rw (accepted-masses binary64 tri2vtx vtx2xy thick rho before is e)
-      (masses-near binary64 margins tri2vtx vtx2xy thick rho before (sized _ _ _ (tests .0) .1) (not-false _ (tests .1)) (few-names _ _ _ (tests .0)) range)
+      (masses-near binary64 margins tri2vtx vtx2xy thick rho before (sized _ _ _ (tests .0) .1) (not-false _ (tests .1)) (sized _ _ _ (tests .0) .2) range)
 
   named : r ≡ accepted → namesBelow (verticesOf vtx2xy) tri2vtx ≡ true
   named e = not-false _ (accepted-exactly binary64 tri2vtx vtx2xy thick rho before is .0 e .1)
@@ -109,3 +103,6 @@ module _ (tri2vtx : List ℕ) (vtx2xy : List Float) (thick rho : Float) (before 
     add-up = λ e. add-up binary64 tri2vtx vtx2xy thick rho (named e);
     sum-near = λ e. sum-near binary64 tri2vtx vtx2xy thick rho (named e) after (near e);
   }
+
+pub met : NearExact binary64 names points thick rho (bufferOf binary64 names points thick rho untouched)
+met = let d = demand-3 names points thick rho untouched (refl, refl) meets in d .near (d .accepts right-lengths right-names)

@@ -2,6 +2,7 @@
 use mathlib.Core.Path.{_≡_, refl, sym}
 use mathlib.Core.Bool.{Bool, true, false, not, _&&_}
 use mathlib.Core.List.{List}
+use mathlib.Core.Logic.{_↔_}
 use Prim.Native.Nat.{ℕ, _-_, _*_, _/_, _%_}
 use native.Mathlib.Nat.{div-add-mod', le-of-mul-le-mul-right, le-trans, le-of-eq}
 use native.Mathlib.Omega.{arith}
@@ -9,6 +10,8 @@ use lib.Dec.{leb, eqb, lit≤}
 use lib.Count.{trailingZeros}
 use lib.Pow.{pow-pos}
 use lib.Ieee.{Float, Format, binary32, binary64, low, fits, odd, ofBits, ofFields}
+use lib.Ieee.Bits.{is-true}
+use lib.Ieee.Scale.{finite}
 use borrow.Author.Tests.{leb-true, eqb-true}
 use Rattle.float.specs.Lists.{every}
 use Rattle.float.specs.Ops.{ops}
@@ -20,10 +23,13 @@ use Rattle.rounding.proofs.Margin.{Between}
 use Rattle.del_geo_core.specs.declared.tri2.V2.{V2}
 use Rattle.del_geo_core.specs.declared.tri2.Tri2.{Tri2}
 use Rattle.mitc_tri3.specs.Masses.{pointAt}
-use Rattle.mass_bounds.specs.Range.{unit, isNumber, isWholeUpTo, between, inRange}
+use Rattle.mass_bounds.specs.Range.{unit, isNumber, isWholeUpTo, between, wholeAt, inRange}
 
-number : (f : Format) (x : Float) → isNumber f x ≡ true → Number f x
-number f x e = let t = both (fits f x) _ e in record { fit = rw (t .0) tt; fine = rw (t .1) tt }
+pub number-iff : (f : Format) (x : Float) → isNumber f x ≡ true ↔ Number f x
+number-iff f x = (
+  (λ e. let t = both (fits f x) _ e in record { fit = rw (t .0) tt; fine = rw (t .1) tt }),
+  (λ n. rw (is-true (fits f x) (n .fit), is-true (finite x) (n .fine))),
+)
 
 -- a coordinate counted in ones
 abbrev pub whole : Format → Float → Num
@@ -40,7 +46,7 @@ coordinate f B x e =
     let q = mag f x / unit f in
     let is : mag f x ≡ q * unit f = omega (arith, div-add-mod' (mag f x) (unit f), eqb-true (mag f x % unit f) 0 (n .1)) in
     record {
-      number = number f x (n .0);
+      number = number-iff f x .0 (n .0);
       is = go (sign x) (mag f x) q (unit f) is;
       small = rw (size-signed (whole f x) (sign x) q refl) (le-of-mul-le-mul-right (le-trans (le-of-eq (sym is)) (leb-true (mag f x) (B * unit f) (t .1))) (pow-pos (low f)));
     }
@@ -54,7 +60,7 @@ unfolding between
 is-between f R x e =
     let t = both (isNumber f x && not (sign x) && leb (unit f) (R * mag f x)) _ e in
     let l = both (isNumber f x && not (sign x)) _ (t .0) in
-    record { number = number f x (both (isNumber f x) _ (l .0) .0); least = leb-true _ _ (l .1); most = leb-true _ _ (t .1) }
+    record { number = number-iff f x .0 (both (isNumber f x) _ (l .0) .0); least = leb-true _ _ (l .1); most = leb-true _ _ (t .1) }
 
 abbrev pub Point : Format → ℕ → V2 → Type 0
 Point f B p = Coordinate f B (p .x) × Coordinate f B (p .y)
@@ -64,14 +70,11 @@ Corners f B p = Point f B (p .p0) × Point f B (p .p1) × Point f B (p .p2)
 
 -- ---- THE law of the premises
 module _ (f : Format) (B : ℕ) (vtx2xy : List Float) where
-  abbrev pub wholeAt : ℕ → Bool
-  wholeAt i = let p = pointAt vtx2xy i in isWholeUpTo f B (p .x) && isWholeUpTo f B (p .y)
-
-  pub point : (i : ℕ) → wholeAt i ≡ true → Point f B (pointAt vtx2xy i)
+  pub point : (i : ℕ) → wholeAt f B vtx2xy i ≡ true → Point f B (pointAt vtx2xy i)
   point i e = let t = both (isWholeUpTo f B (pointAt vtx2xy i .x)) _ e in (coordinate f B _ (t .0), coordinate f B _ (t .1))
 
   pub in-range : (R : ℕ) (tri2vtx : List ℕ) (thick rho : Float) → inRange f B R tri2vtx vtx2xy thick rho ≡ true
-      → Between f R thick × Between f R rho × (every wholeAt tri2vtx ≡ true)
+      → Between f R thick × Between f R rho × (every (wholeAt f B vtx2xy) tri2vtx ≡ true)
   unfolding inRange
   in-range R tri2vtx thick rho e =
       let t = both (between f R rho && between f R thick) _ e in

@@ -9,12 +9,13 @@ use Rattle.float.specs.Lists.{every, foldThrees}
 use Rattle.refusal.specs.Panel.{withinLimits, namesBelow}
 use Rattle.rounding.specs.Exact.{mag, sign, value}
 use Rattle.rounding.specs.Sums.{sumOf}
+use Rattle.mitc_tri3.specs.Example.{points, thick, rho}
 use Rattle.mitc_tri3.specs.Masses.{cornersAt, verticesOf, badLengthOf}
 use Rattle.mitc_tri3.specs.Vertex.{namedBy, trianglesOf}
 use Rattle.mass_bounds.specs.Range.{isWholeUpTo, between, inRange}
 use Rattle.mass_bounds.specs.Shares.{twiceArea, weight, exactShare}
 use Rattle.mass_bounds.specs.Bounds.{NearExact}
-use Rattle.mass_bounds.specs.Example.{points, names, thick, rho, untouched, allZero, firstOnly}
+use Rattle.mass_bounds.specs.Example.{names, untouched, allZero, firstOnly}
 
 pub meets : inRange binary64 1048576 (2 ^ 40) names points thick rho ≡ true
 unfolding inRange between isWholeUpTo every fits mag sign

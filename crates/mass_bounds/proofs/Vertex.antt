@@ -19,10 +19,10 @@ use Rattle.rounding.proofs.Margin.{safe-sum}
 use Rattle.del_geo_core.specs.declared.tri2.Tri2.{Tri2}
 use Rattle.mitc_tri3.specs.Masses.{cornersAt}
 use Rattle.mitc_tri3.specs.Vertex.{when, namedBy, trianglesOf, shareOf}
-use Rattle.mass_bounds.specs.Range.{unit, inRange}
+use Rattle.mass_bounds.specs.Range.{unit, wholeAt, inRange}
 use Rattle.mass_bounds.specs.Shares.{exactShare, over}
 use Rattle.mass_bounds.specs.Bounds.{roundings}
-use Rattle.mass_bounds.proofs.Premises.{Corners, wholeAt, point, in-range}
+use Rattle.mass_bounds.proofs.Premises.{Corners, point, in-range}
 use Rattle.mass_bounds.proofs.Share.{Margins, share-safe}
 
 -- ---- the triangles of a vertex: no more than there are names, with whole corners

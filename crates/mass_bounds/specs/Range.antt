@@ -26,7 +26,11 @@ module _ (f : Format) where
   unfoldable pub between : (R : ℕ) (x : Float) → Bool
   between R x = isNumber x && not (sign x) && leb unit (R * mag f x) && leb (mag f x) (R * unit)
 
+  -- both coordinates of vertex i
+  abbrev pub wholeAt : (B : ℕ) (vtx2xy : List Float) (i : ℕ) → Bool
+  wholeAt B vtx2xy i = let p = pointAt vtx2xy i in isWholeUpTo B (p .x) && isWholeUpTo B (p .y)
+
   -- density, thickness, and the coordinates of every vertex that is named
   unfoldable pub inRange : (B R : ℕ) (tri2vtx : List ℕ) (vtx2xy : List Float) (thick rho : Float) → Bool
   inRange B R tri2vtx vtx2xy thick rho =
-      between R rho && between R thick && every (λ i. let p = pointAt vtx2xy i in isWholeUpTo B (p .x) && isWholeUpTo B (p .y)) tri2vtx
+      between R rho && between R thick && every (wholeAt B vtx2xy) tri2vtx

@@ -4,7 +4,8 @@ use mathlib.Core.Path.{_≡_, refl}
 use mathlib.Core.Bool.{Bool, true, false, not, cond}
 use mathlib.Core.List.{List, [], _∷_}
 use mathlib.Core.Logic.{_↔_}
-use Prim.Native.Nat.{ℕ, _*_, _%_}
+use Prim.Native.Nat.{ℕ, _*_, _%_, _≤_}
+use native.Mathlib.Omega.{arith}
 use lib.Dec.{eqb}
 use lib.Ieee.{Float, Format}
 use lib.ListN.{length}
@@ -13,18 +14,19 @@ use Rattle.float.specs.Lists.{allFinite, cleared, every}
 use Rattle.float.proofs.Scan.{both}
 use Rattle.float.proofs.Unique.{only}
 use Rattle.refusal.specs.Refusal.{accepted, badLength, badName, badInput, badAnswer, Row, _⇒_}
-use Rattle.refusal.specs.Panel.{withinLimits, namesBelow}
+use Rattle.refusal.specs.Panel.{maxTriangles, withinLimits, namesBelow}
 use Rattle.refusal.proofs.Ladder as ladder
 use Rattle.refusal.proofs.Ladder.{none, exactly}
 use Rattle.refusal.proofs.Panel.{within}
 use Rattle.mitc_tri3.specs.Masses.{verticesOf, badLengthOf, badInputOf, massesOf, numberOf, bufferOf, IsMasses}
 
 -- what is known of the lengths where they are right
-pub sized : (vertices names places : ℕ) → badLengthOf vertices names places ≡ false → (names % 3 ≡ 0) × (places ≡ vertices * 3)
+pub sized : (vertices names places : ℕ) → badLengthOf vertices names places ≡ false → (names % 3 ≡ 0) × (places ≡ vertices * 3) × (names ≤ maxTriangles * 3)
 unfolding badLengthOf
 sized vertices names places e =
     let l = both (withinLimits vertices names) _ (not-false _ e) in
-    (within vertices names (l .0) .1, eqb-true _ _ (l .1))
+    let w = within vertices names (l .0) in
+    (w .1, eqb-true _ _ (l .1), omega (arith, w .1, w .2))
 
 module _ (f : Format) (tri2vtx : List ℕ) (vtx2xy : List Float) (thick rho : Float) (before : List Float) where
   -- no second answer fits

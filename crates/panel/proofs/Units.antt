@@ -1,16 +1,17 @@
 -- Sizes in units of 2^-10: the pattern's digits m times 2^e over 2^1075 are n / 1024 exactly where m is n * 2^(1065 - e), since both sides are one fraction.
-use mathlib.Core.Path.{_≡_, refl, sym, ap, _∙_, subst}
-use mathlib.Core.Bool.{Bool, true, false, cond, true≢false, false≢true}
+use mathlib.Core.Path.{_≡_, refl, sym, ap, _∙_}
+use mathlib.Core.Bool.{true, false, true≢false, false≢true}
 use Prim.Native.Nat.{ℕ, zero, suc, _+_, _-_, _*_, _/_, _%_, _^_, _≤_, _<_}
 use native.Mathlib.Nat.{add-zero, one-mul, lt-of-not-le, mod-lt, mod-eq-of-lt, lt-of-lt-of-le, mul-pos, mul-mod-left, mul-le-mul, mul-le-mul-left, mul-le-mul-right, eq-of-mul-eq-mul-right}
 use native.Mathlib.Decide.{decLe}
 use native.Mathlib.Omega.{arith}
-use lib.Dec.{leb, eqb, lit≤, lit<}
+use lib.Dec.{eqb, lit≤, lit<}
 use lib.Pow.{pow-add, pow-pos, pow-mono, shl-exact, split}
 use borrow.Author.Tests.{eqb-true, eqb-false}
-use lib.Ieee.{binary64, ofBits, ofFields, odd, inf, nan, hid, top}
+use lib.Ieee.{binary64, ofBits, ofFields, odd}
 use lib.Ieee.Exact.{HasValue}
 use Rattle.float.proofs.Value.{rescale, fractions-agree}
+use Rattle.float.proofs.Bits.{infinity-bits, above-nan}
 use Rattle.float.proofs.Patterns.{subnormal-value}
 use Rattle.root.proofs.Fields.{unpack-normal}
 use Rattle.panel.specs.Units.{InUnits, IsScaled}
@@ -46,15 +47,6 @@ too-small M Q (suc n) pos below h = omega (arith, below, h)
 
 under : (B S Q m : ℕ) → 0 < B → B ≤ S → m < 2 ^ 53 → Q ≡ S * 2 ^ 63 → m * B * 1024 < Q
 under B S Q m pos most few q = rw q (omega (arith, pos, mul-le-mul few most))
-
--- a field of all ones: an infinity or a NaN
-no-number : (s : Bool) (x t n : ℕ) → x ≡ 2047 → HasValue (ofFields binary64 s x t) false n 1024 → ⊥
-unfolding ofFields
-no-number s x t n h is = go (eqb t 0) (subst (λ (z : ℕ). HasValue (ofFields binary64 s z t) false n 1024) h is)
-  where
-    go : (c : Bool) → HasValue (cond c (inf s) nan) false n 1024 → ⊥
-    go true v = v
-    go false v = v
 
 module _ (b : ℕ) where
   abbrev e : ℕ
@@ -110,11 +102,13 @@ module _ (b : ℕ) where
       too-small (b * 2 ^ 0 * 1024) (2 ^ 1074) n (omega arith) (lt-of-lt-of-le less (lit≤ tt))
       (fractions-agree (ofBits binary64 b) false (b * 2 ^ 0) (2 ^ 1074) n 1024 (subnormal-value binary64 b small) is)
 
+  -- an infinity or a NaN
   special : 2047 * 2 ^ 52 ≤ b → b < 2 ^ 63 → (n : ℕ) → InUnits b n → ⊥
-  unfolding ofBits
-  special from small n is =
-      let all-ones : b / 2 ^ 52 ≡ 2047 = omega arith in
-      no-number (leb (top binary64) b) (b % top binary64 / hid binary64) (b % hid binary64) n (ap (λ (z : ℕ). z / 2 ^ 52) (mod-eq-of-lt small) ∙ all-ones) is
+  special from small n is = go (decLe b (2047 * 2 ^ 52))
+    where
+      go : Dec (b ≤ 2047 * 2 ^ 52) → ⊥
+      go (yes h) = let e : b ≡ 2047 * 2 ^ 52 = omega arith in rw (e, infinity-bits binary64) at is
+      go (no h) = rw (above-nan binary64 b (rw (mod-eq-of-lt small) (lt-of-not-le h))) at is
 
   pub too-low : 0 < b → e < 1013 → IsScaled b (record { exact = false; n = 0 })
   too-low some most = record { some = λ no. absurd (false≢true no); none = λ no n small is. by-field (decLe (2 ^ 52) b) n is }

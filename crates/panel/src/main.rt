@@ -42,9 +42,9 @@ fn sum_of_translations(vtx2mass: &[f64]) -> f64 {
 fn put_refusal(number: u32) {
     text(b"refused: ");
     match number {
-        1 => text(b"a length or a limit is wrong"),
-        2 => text(b"a triangle names a vertex that does not exist"),
-        3 => text(b"a number is NaN or infinite"),
+        refusal::BAD_LENGTH => text(b"a length or a limit is wrong"),
+        refusal::BAD_NAME => text(b"a triangle names a vertex that does not exist"),
+        refusal::BAD_INPUT => text(b"a number is NaN or infinite"),
         _ => text(b"a mass is NaN or infinite"),
     }
     text(b" (");
@@ -73,7 +73,7 @@ fn put_sum(vtx2mass: &[f64]) {
 fn size(tri2vtx: &[usize], vtx2xy: &[f64], thick: f64, rho: f64, vtx2mass: &mut [f64]) {
     put_heading(vtx2xy.len() / 2, tri2vtx.len() / 3, thick, rho);
     let number = mitc_tri3::mass_lumped_plate_bending(tri2vtx, vtx2xy, thick, rho, vtx2mass);
-    if number != 0 {
+    if number != refusal::ACCEPTED {
         put_refusal(number);
         return;
     }
@@ -90,24 +90,12 @@ fn square(tri2vtx: [usize; 6]) {
 
 // The wall strip: two rows of eleven vertices, the hinge row first.
 fn column(c: usize) -> f64 {
-    match c {
-        0 => 0.0,
-        1 => 24.0,
-        2 => 48.0,
-        3 => 72.0,
-        4 => 96.0,
-        5 => 120.0,
-        6 => 144.0,
-        7 => 168.0,
-        8 => 192.0,
-        9 => 216.0,
-        _ => 240.0,
-    }
+    24.0 * ((c % 11) as u32 as f64)
 }
 
 fn coordinate(i: usize) -> f64 {
     if i % 2 == 0 {
-        return column(i / 2 % 11);
+        return column(i / 2);
     }
     if i / 2 < 11 { 0.0 } else { 40.0 }
 }

@@ -1,4 +1,4 @@
--- Exact sums: over a list, and over the numbers below a count. All by induction.
+-- Exact sums: over a list, and over the numbers below a count; and the greatest of such. All by induction.
 use mathlib.Core.Path.{_≡_, refl}
 use mathlib.Core.Bool.{cond}
 use mathlib.Core.List.{List, [], _∷_, _++_}

@@ -56,7 +56,7 @@ nearest-finite f K z y n h =
     go w B L h = omega arith
 
 -- ---- K x is at most twice what it approximates
-pub near-size : {f : Format} {c K : ℕ} {x : Float} {y : Num} {S : ℕ} → 2 * c ≤ 2 ^ prec f → Near f c K x y S → K * mag f x ≤ 2 * S
+near-size : {f : Format} {c K : ℕ} {x : Float} {y : Num} {S : ℕ} → 2 * c ≤ 2 ^ prec f → Near f c K x y S → K * mag f x ≤ 2 * S
 near-size {f} {x = x} h n = rw (size-value f x) at (err-twice (pow-pos (prec f)) h (n .err))
 
 module _ (f : Format) where
@@ -90,11 +90,11 @@ module _ (f : Format) where
 
   -- ---- a sum from left to right of finite terms, from a finite start s that is what was added so far
   module _ {A : Type 0} (g : A → Float) (c K : ℕ) (y : A → Num) (S : A → ℕ) where
-    from-finite : {d S₀ : ℕ} {n : Num} (s : Float) (l : List A) → c ≤ d → T (finite s) → Near f d K s n S₀ → All (λ a. T (finite (g a)) × Near f c K (g a) (y a) (S a)) l
+    fold-finite : {d S₀ : ℕ} {n : Num} (s : Float) (l : List A) → c ≤ d → T (finite s) → Near f d K s n S₀ → All (λ a. T (finite (g a)) × Near f c K (g a) (y a) (S a)) l
         → 2 * (d + length l) ≤ 2 ^ prec f → 4 * (S₀ + sumOf S l) < overflow f * K → T (finite (fold (λ s a. s ⊕ g a) s l))
     unfolding fold sumOf
-    from-finite s [] h t e ts r o = t
-    from-finite {d} {S₀} s (a ∷ l) h t e ((u, k), ts) r o =
+    fold-finite s [] h t e ts r o = t
+    fold-finite {d} {S₀} s (a ∷ l) h t e ((u, k), ts) r o =
         let k' = near-more h k in
         let less : 2 * d ≤ 2 ^ prec f = omega arith in
         let p : Number f s = record { fit = e .fit; fine = t } in
@@ -103,7 +103,7 @@ module _ (f : Format) where
         rw (size-value f s, size-value f (g a)) at (size-sum (value f s ⊞ value f (g a)) (value f s) (value f (g a)) refl) in
         let v = nearest-finite f 1 (s ⊕ g a) _ (add-nearest f s (g a) p q)
         (lt-of-mul-lt-mul-right K (go _ (mag f s) (mag f (g a)) (overflow f) (S a) (sumOf S l) b (near-size less e) (near-size less k') o)) in
-        from-finite (s ⊕ g a) l (omega arith) v (add-near f e k' v) ts (omega arith) (omega arith)
+        fold-finite (s ⊕ g a) l (omega arith) v (add-near f e k' v) ts (omega arith) (omega arith)
       where
         go : (m a b O S₁ R : ℕ) → m ≤ a + b → K * a ≤ 2 * S₀ → K * b ≤ 2 * S₁ → 4 * (S₀ + (S₁ + R)) < O * K → 2 * m * K < O * 1 * K
         go m a b O S₁ R h i j o = omega (arith, mul-le-mul-right K h)
@@ -113,4 +113,4 @@ module _ (f : Format) where
     sum-finite l ts r o =
         let K+ : 0 < K = first-pos K (overflow f) (omega arith) in
         let start : Near f 0 K nought (signed false 0) 0 = near-exact (zero-number f .fit) K+ (rw (zero-value f) (omega arith)) (omega arith) in
-        from-finite nought l (omega arith) (zero-number f .fine) (near-more (omega arith) start) ts r (omega arith)
+        fold-finite nought l (omega arith) (zero-number f .fine) (near-more (omega arith) start) ts r (omega arith)

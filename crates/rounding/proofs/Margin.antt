@@ -39,14 +39,14 @@ pub record Safe (f : Format) (M c K : ℕ) (x : Float) (y : Num) : Type 0 where
   pub below : sizeOf y * (8 * M) ≤ overflow f * K
 
 -- what is used of a margin
-under : (f : Format) (S M K : ℕ) → 0 < M → 0 < K → S * (8 * M) ≤ overflow f * K → 4 * S < overflow f * K
-under f S M K m k h = go (overflow f * K) (mul-pos (pow-pos (low f + suc (emax f))) k) h
+no-overflow : (f : Format) (S M K : ℕ) → 0 < M → 0 < K → S * (8 * M) ≤ overflow f * K → 4 * S < overflow f * K
+no-overflow f S M K m k h = go (overflow f * K) (mul-pos (pow-pos (low f + suc (emax f))) k) h
   where
     go : (X : ℕ) → 0 < X → S * (8 * M) ≤ X → 4 * S < X
     go X x h = omega (arith, mul-le-mul-right (8 * S) m)
 
-over : (P M K : ℕ) (y : Num) → 0 < M → AtLeast (P * (M * K)) y → AtLeast (P * K) y
-over P M K y m h p = le-trans (omega (arith, mul-le-mul-right (P * K) m)) (h p)
+in-normal : (P M K : ℕ) (y : Num) → 0 < M → AtLeast (P * (M * K)) y → AtLeast (P * K) y
+in-normal P M K y m h p = le-trans (omega (arith, mul-le-mul-right (P * K) m)) (h p)
 
 module _ (f : Format) where
   open Ops (ops f) using (_⊗_, _⊘_)
@@ -61,11 +61,11 @@ module _ (f : Format) where
         let above : AtLeast (2 ^ prec f * (M * (L * K))) (y ⊠ value f z) =
         λ p. le-trans (more (2 ^ prec f) L (mag f z) (b .least)) (at-least-product _ (mag f z) y (value f z) (size-value f z) (s .above) p) in
         let below = less L (sizeOf y) (mag f z) (overflow f) (b .most) (s .below) in
-        let t = mul-near-finite f z (omega arith) (s .fine) (s .chain) (b .number) (under f (sizeOf y * mag f z) M (L * K) M+ (mul-pos (pow-pos (low f)) (s .chain .some)) below) in
+        let t = mul-near-finite f z (omega arith) (s .fine) (s .chain) (b .number) (no-overflow f (sizeOf y * mag f z) M (L * K) M+ (mul-pos (pow-pos (low f)) (s .chain .some)) below) in
         record {
           some = M+;
           fine = t;
-          chain = mul-chain f z (s .chain) small (b .number .fit) t (over _ M _ _ M+ above);
+          chain = mul-chain f z (s .chain) small (b .number .fit) t (in-normal _ M _ _ M+ above);
           above = above;
           below = rw (size-product y (value f z), size-value f z) below;
         }
@@ -82,11 +82,11 @@ module _ (f : Format) where
         let M+ = first-pos M d (s .some) in
         let above : AtLeast (2 ^ prec f * (M * (d * K))) y = λ p. le-trans (more (2 ^ prec f)) (s .above p) in
         let below = less (sizeOf y) (overflow f) (s .below) in
-        let t = div-whole-finite f z (omega arith) (s .fine) (s .chain) d d+ (w .number) (omega (arith, w .is)) (under f (sizeOf y) M (d * K) M+ (mul-pos d+ (s .chain .some)) below) in
+        let t = div-whole-finite f z (omega arith) (s .fine) (s .chain) d d+ (w .number) (omega (arith, w .is)) (no-overflow f (sizeOf y) M (d * K) M+ (mul-pos d+ (s .chain .some)) below) in
         record {
           some = M+;
           fine = t;
-          chain = div-whole f z (s .chain) small d d+ (w .number) (omega (arith, w .is)) t (over _ M _ _ M+ above);
+          chain = div-whole f z (s .chain) small d d+ (w .number) (omega (arith, w .is)) t (in-normal _ M _ _ M+ above);
           above = above;
           below = below;
         }
@@ -106,7 +106,7 @@ module _ (f : Format) where
     safe-finite : T (finite (total f g l))
     safe-finite =
         sum-finite f g c K y size l (all-map (λ a s. (s .fine, s .chain)) l terms) (le-trans (twice (c + length l) few) small)
-        (under f (sumOf size l) 1 K (le-refl 1) some (le-of-mul-le-mul-right
+        (no-overflow f (sumOf size l) 1 K (le-refl 1) some (le-of-mul-le-mul-right
         (go (sumOf size l) (length l) (overflow f * K) (omega arith) (sum-most size (8 * M) (overflow f * K) l (all-map (λ a s. s .below) l terms))) M+))
       where
         M+ : 0 < M

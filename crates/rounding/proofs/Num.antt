@@ -1,4 +1,4 @@
--- Signed numbers: the size of a sum is at most the sum of the sizes, that of a product is the product, and a product of multiples is one. By cases of the signs.
+-- Signed numbers: the size of a sum is at most the sum of the sizes, that of a product is the product, products associate, and differences and products of multiples are multiples. By cases of the signs.
 use mathlib.Core.Path.{_≡_, ap}
 use mathlib.Core.Bool.{Bool, true, false}
 use Prim.Native.Nat.{ℕ, _+_, _*_, _≤_}
@@ -48,7 +48,10 @@ size-product a b =
     let q = signed-size b in
     size-signed (a ⊠ b) (unlike (p .0) (q .0)) (sizeOf a * sizeOf b) (product-signed a b (p .0) (q .0) (sizeOf a) (sizeOf b) (p .1) (q .1))
 
--- a product of multiples
+-- a difference and a product of multiples
+pub difference-scale : (a b n m : Num) (l : ℕ) → Equal a (scale l n) → Equal b (scale l m) → Equal (a ⊟ b) (scale l (n ⊟ m))
+difference-scale a b n m l h k = omega arith
+
 pub product-scale : (a b n m : Num) (p q : ℕ) → Equal a (scale p n) → Equal b (scale q m) → Equal (a ⊠ b) (scale (p * q) (n ⊠ m))
 product-scale a b n m p q e d =
     omega (

@@ -1,13 +1,13 @@
 -- Rounded sums: from left to right, each addition is one rounding of all that was added so far; by halves, each level is one rounding of all.
 -- The first addition, to +0, is exact.
-use mathlib.Core.Path.{_≡_, refl}
+use mathlib.Core.Path.{_≡_, refl, sym, ap, _∙_}
 use mathlib.Core.Bool.{false}
 use mathlib.Core.List.{List, [], _∷_, _++_}
-use Prim.Native.Nat.{ℕ, zero, suc, _+_, _*_, _/_, _^_, _≤_, _<_}
+use Prim.Native.Nat.{ℕ, zero, suc, _+_, _*_, _/_, _^_, _≤_}
 use native.Mathlib.Nat.{le-refl, le-trans, le-of-eq, mul-le-mul, pow-suc}
 use native.Mathlib.Omega.{arith}
 use lib.Dec.{T}
-use lib.ListN.{length, getD, take, drop, length-take, length-drop}
+use lib.ListN.{length, take, drop, take-append-drop, length-take, length-drop}
 use lib.Ieee.{Float, Format, binary32, binary64, prec, fits}
 use lib.Ieee.Fits.{add-fits}
 use lib.Ieee.Scale.{finite}
@@ -21,15 +21,11 @@ use Rattle.rounding.proofs.Num.{size-times}
 use Rattle.rounding.proofs.Value.{size-value}
 use Rattle.rounding.proofs.Operations.{add-finite}
 use Rattle.rounding.proofs.Rounding.{zero-add}
+use Rattle.rounding.proofs.ExactSums.{sum-append}
 use Rattle.rounding.proofs.Chain.{near-exact, near-same, near-more, near-within, add-near}
 
 -- ---- lists
 module _ {A : Type 0} (P : A → Type 0) where
-  -- what holds at each place holds of each element
-  pub all-at : (l : List A) (d : A) → ((i : ℕ) → i < length l → P (getD l i d)) → All P l
-  all-at [] d h = tt
-  all-at (a ∷ l) d h = (h 0 (omega arith), all-at l d (λ i k. h (suc i) (omega arith)))
-
   pub all-append : (l m : List A) → All P l → All P m → All P (l ++ m)
   all-append [] m h k = k
   all-append (a ∷ l) m h k = (h .0, all-append l m (h .1) k)
@@ -49,10 +45,7 @@ all-map h [] k = tt
 all-map h (a ∷ l) k = (h a (k .0), all-map h l (k .1))
 
 sum-split : {A : Type 0} (g : A → ℕ) (i : ℕ) (l : List A) → sumOf g (take i l) + sumOf g (drop i l) ≡ sumOf g l
-unfolding sumOf
-sum-split g zero l = omega arith
-sum-split g (suc i) [] = refl
-sum-split g (suc i) (a ∷ l) = omega (arith, sum-split g i l)
+sum-split g i l = sym (sum-append g (take i l) (drop i l)) ∙ ap (sumOf g) (take-append-drop i l)
 
 -- ---- +0 is a number, and nothing
 pub zero-number : (f : Format) → Number f (literal f 0 0)
