@@ -1,4 +1,5 @@
--- Signed numbers: the size of a sum is at most the sum of the sizes, that of a product is the product, products associate, and differences and products of multiples are multiples. By cases of the signs.
+-- Signed numbers: the size of a sum is at most the sum of the sizes, that of a product is the product; differences and products of multiples are multiples,
+-- and products associate. By cases of the signs.
 use mathlib.Core.Path.{_≡_, ap}
 use mathlib.Core.Bool.{Bool, true, false}
 use Prim.Native.Nat.{ℕ, _+_, _*_, _≤_}
