@@ -1,10 +1,9 @@
 -- The marked examples hold (01-scope 8.3): every row of the table, by computing.
 use mathlib.Core.Path.{_≡_, refl, ap}
 use Prim.Native.Nat.{ℕ}
-use lib.Count.{trailingZeros}
-use lib.Ieee.{binary64, size, span, climb, odd, units, round, sum, add, sub, neg, mul, div, ofBits, ofFields, toBits}
+use lib.Ieee.{binary64, sub, mul, div, ofBits, toBits}
 use Rattle.float.specs.Lists.{every, table as tabled, each, fold, foldThrees}
-use Rattle.root.specs.Root.{isqrt, nearestRoot, rootOf, rootWordOf}
+use Rattle.root.specs.Root.{rootOf, rootWordOf}
 use Rattle.refusal.specs.Refusal.{accepted, zeroDivisor, firstOf, kernelNumber}
 use Rattle.refusal.specs.Answers.{badEnergyOf, energyOf}
 use Rattle.refusal.specs.Panel.{withinLimits}
@@ -30,23 +29,22 @@ use Rattle.examples.specs.Table.{Hold, p, u, plate, p0, p1, stvk, tableO
 
 -- Examples 8 and 9 take all 91 values for the number alone, and each value takes the number: so the number is computed once, and then put in its place.
 plate-accepted : plate +2 .number ≡ accepted
-unfolding plate trailingZeros size span climb odd units round sum add sub neg mul div ofBits ofFields every tabled each fold isqrt nearestRoot rootOf
-    firstOf kernelNumber badEnergyOf energyOf vec3.isFiniteOf vec3.overOf tri2.isFiniteOf tri3.isFiniteOf coords.contravariantOf coords.inverseOf mat3.multVecOf
-    bend.coeffaOf bend.coeffbOf bend.deDtOf bend.bendingOf bend.t0s bend.strainOf bend.dstrainOf bend.wOf bend.dwOf bend.ddwOf
-    shear.coeffaOf shear.coeffbOf shear.shearOf shear.rs shear.ss shear.strainOf shear.stressOf shear.deRt01Of shear.deSt20Of shear.dcoeffERtOf shear.dstrainOf shear.wOf shear.dwOf shear.ddwOf
+unfolding plate sub mul div ofBits every tabled each fold rootOf firstOf kernelNumber badEnergyOf energyOf vec3.isFiniteOf vec3.overOf tri2.isFiniteOf tri3.isFiniteOf coords.contravariantOf
+    coords.inverseOf mat3.multVecOf bend.coeffaOf bend.coeffbOf bend.deDtOf bend.bendingOf bend.t0s bend.strainOf bend.dstrainOf bend.wOf bend.dwOf bend.ddwOf shear.coeffaOf
+    shear.coeffbOf shear.shearOf shear.rs shear.ss shear.strainOf shear.stressOf shear.deRt01Of shear.deSt20Of shear.dcoeffERtOf shear.dstrainOf shear.wOf shear.dwOf shear.ddwOf
     plates.gdOf plates.guGuOf plates.guOf plates.stateOf plates.accumulatedOf plates.wOf plates.dwOf plates.ddwOf mitc.badInputOf mitc.zeroDivisorOf mitc.wDwDdwPlateBendingOf
 plate-accepted = refl
 
 plate-refused : plate +0 .number ≡ zeroDivisor
-unfolding plate trailingZeros size span climb odd units round sum add sub neg mul div ofBits ofFields firstOf kernelNumber energyOf vec3.isFiniteOf vec3.overOf
-    tri2.isFiniteOf tri3.isFiniteOf coords.contravariantOf coords.inverseOf plates.gdOf plates.guOf plates.stateOf mitc.badInputOf mitc.zeroDivisorOf mitc.wDwDdwPlateBendingOf
+unfolding plate sub mul div ofBits firstOf kernelNumber energyOf vec3.isFiniteOf vec3.overOf tri2.isFiniteOf tri3.isFiniteOf coords.contravariantOf coords.inverseOf plates.gdOf plates.guOf
+    plates.stateOf mitc.badInputOf mitc.zeroDivisorOf mitc.wDwDdwPlateBendingOf
 plate-refused = refl
 
 stvk-accepted : stvk .number ≡ accepted
-unfolding stvk trailingZeros size span climb odd units round sum add sub neg mul div ofBits ofFields every tabled each isqrt nearestRoot rootOf
-    firstOf kernelNumber badEnergyOf energyOf vec3.isFiniteOf vec3.normOf vec3.overOf vec3.unitOf tri3.isFiniteOf tri3.normalOf tri3.unitNormalAreaOf
-    coords.contravariantOf mat3.multVecOf edges.edgesOf edges.glstrainOf energy.alongOf energy.badInputOf energy.zeroDivisorOf energy.restOf energy.glstrainOf energy.gugu0Of
-    energy.elasticityTensorOf energy.stateOf energy.wOf energy.dNdrOf energy.dwAtOf energy.dwOf energy.dtmp0Of energy.dtmp1Of energy.rowOf energy.blockOf energy.ddwOf energy.wdwddwOf
+unfolding stvk sub mul div ofBits every tabled each rootOf firstOf kernelNumber badEnergyOf energyOf vec3.isFiniteOf vec3.normOf vec3.overOf vec3.unitOf tri3.isFiniteOf tri3.normalOf
+    tri3.unitNormalAreaOf coords.contravariantOf mat3.multVecOf edges.edgesOf edges.glstrainOf energy.alongOf energy.badInputOf energy.zeroDivisorOf energy.restOf energy.glstrainOf
+    energy.gugu0Of energy.elasticityTensorOf energy.stateOf energy.wOf energy.dNdrOf energy.dwAtOf energy.dwOf energy.dtmp0Of energy.dtmp1Of energy.rowOf energy.blockOf energy.ddwOf
+    energy.wdwddwOf
 stvk-accepted = refl
 
 abbrev plateAs : (thk n : ℕ) → Energy
@@ -68,14 +66,14 @@ unfolding stvk energy.wdwddwOf energyOf
 stvk-as is = ap stvkAs is
 
 numbers-given : Hold (tableOf (plateAs +2 accepted) (plateAs +0 zeroDivisor) (stvkAs accepted))
-unfolding tableOf trailingZeros size span climb odd units round sum add sub neg mul div ofBits ofFields toBits every tabled each fold foldThrees isqrt nearestRoot rootOf rootWordOf
-    firstOf kernelNumber energyOf withinLimits vec3.isFiniteOf vec3.normOf vec3.overOf vec3.unitOf tri2.isFiniteOf tri3.isFiniteOf tri3.normalOf tri3.areaOf tri3.unitNormalAreaOf
-    edge.lengthOf coords.contravariantOf coords.inverseOf mat3.multVecOf bend.coeffaOf bend.coeffbOf bend.deDtOf bend.bendingOf bend.t0s bend.strainOf bend.wOf
-    shear.coeffaOf shear.coeffbOf shear.shearOf shear.rs shear.ss shear.strainOf shear.stressOf shear.wOf plates.gdOf plates.guGuOf plates.guOf plates.stateOf plates.accumulatedOf
-    plates.wOf addVertex addTriangle cornersAt badLengthOf namedFinite badInputOf massOf addMasses addAll massesOf numberOf bufferOf edges.edgesOf edges.glstrainOf
-    strain.badInputOf strain.zeroDivisorOf strain.badAnswerOf strain.gd0Of strain.restOf strain.gugu0XxOf strain.gugu0YyOf strain.gugu0XyOf strain.wOf strain.hogeOf strain.dwKOf
-    strain.dwOf strain.valuesOf strain.strainOf strain.wdwOf energy.alongOf energy.restOf energy.glstrainOf energy.gugu0Of energy.elasticityTensorOf energy.stateOf energy.wOf
-    energy.dNdrOf energy.dwAtOf energy.dwOf bending.isFiniteOf bending.zeroDivisorOf bending.divisorsOf bending.kOf bending.wOf bending.dwdpOf bending.bendingOf bending.wdwOf
+unfolding tableOf sub mul div ofBits toBits every tabled each fold foldThrees rootOf rootWordOf firstOf kernelNumber energyOf withinLimits vec3.isFiniteOf vec3.normOf vec3.overOf vec3.unitOf
+    tri2.isFiniteOf tri3.isFiniteOf tri3.normalOf tri3.areaOf tri3.unitNormalAreaOf edge.lengthOf coords.contravariantOf coords.inverseOf mat3.multVecOf bend.coeffaOf bend.coeffbOf
+    bend.deDtOf bend.bendingOf bend.t0s bend.strainOf bend.wOf shear.coeffaOf shear.coeffbOf shear.shearOf shear.rs shear.ss shear.strainOf shear.stressOf shear.wOf plates.gdOf
+    plates.guGuOf plates.guOf plates.stateOf plates.accumulatedOf plates.wOf addVertex addTriangle cornersAt badLengthOf namedFinite badInputOf massOf addMasses addAll massesOf
+    numberOf bufferOf edges.edgesOf edges.glstrainOf strain.badInputOf strain.zeroDivisorOf strain.badAnswerOf strain.gd0Of strain.restOf strain.gugu0XxOf strain.gugu0YyOf
+    strain.gugu0XyOf strain.wOf strain.hogeOf strain.dwKOf strain.dwOf strain.valuesOf strain.strainOf strain.wdwOf energy.alongOf energy.restOf energy.glstrainOf energy.gugu0Of
+    energy.elasticityTensorOf energy.stateOf energy.wOf energy.dNdrOf energy.dwAtOf energy.dwOf bending.isFiniteOf bending.zeroDivisorOf bending.divisorsOf bending.kOf bending.wOf
+    bending.dwdpOf bending.bendingOf bending.wdwOf
 numbers-given = refl
 
 -- THE theorem of the marked examples

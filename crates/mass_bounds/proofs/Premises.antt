@@ -7,9 +7,8 @@ use Prim.Native.Nat.{ℕ, _-_, _*_, _/_, _%_}
 use native.Mathlib.Nat.{div-add-mod', le-of-mul-le-mul-right, le-trans, le-of-eq}
 use native.Mathlib.Omega.{arith}
 use lib.Dec.{leb, eqb, lit≤}
-use lib.Count.{trailingZeros}
 use lib.Pow.{pow-pos}
-use lib.Ieee.{Float, Format, binary32, binary64, low, fits, odd, ofBits, ofFields}
+use lib.Ieee.{Float, Format, binary32, binary64, low, fits, ofBits}
 use lib.Ieee.Bits.{is-true}
 use lib.Ieee.Scale.{finite}
 use borrow.Author.Tests.{leb-true, eqb-true}
@@ -83,16 +82,16 @@ module _ (f : Format) (B : ℕ) (vtx2xy : List Float) where
 
 -- ---- the constants
 pub three-dyad : (f : Format) → Dyad f (ops f .three) (low f) (signed false 3) 3
-unfolding ofBits ofFields odd trailingZeros fits value mag sign
+unfolding ofBits fits value
 three-dyad binary32 = record { number = record { fit = tt; fine = tt }; is = refl; small = lit≤ tt }
 three-dyad binary64 = record { number = record { fit = tt; fine = tt }; is = refl; small = lit≤ tt }
 
 pub twelve-dyad : (f : Format) → Dyad f (ops f .twelve) (low f) (signed false 12) 12
-unfolding ofBits ofFields odd trailingZeros fits value mag sign
+unfolding ofBits fits value
 twelve-dyad binary32 = record { number = record { fit = tt; fine = tt }; is = refl; small = lit≤ tt }
 twelve-dyad binary64 = record { number = record { fit = tt; fine = tt }; is = refl; small = lit≤ tt }
 
 pub half-dyad : (f : Format) → Dyad f (ops f .half) (low f - 1) (signed false 1) 1
-unfolding ofBits ofFields odd trailingZeros fits value mag sign
+unfolding ofBits fits value
 half-dyad binary32 = record { number = record { fit = tt; fine = tt }; is = refl; small = lit≤ tt }
 half-dyad binary64 = record { number = record { fit = tt; fine = tt }; is = refl; small = lit≤ tt }

@@ -30,14 +30,14 @@ unfolding every
 right-names = refl
 
 pub not-untouched : NearExact binary64 names points thick rho untouched → ⊥
-unfolding value mag sign sumOf twiceArea weight exactShare trianglesOf namedBy cornersAt foldThrees
+unfolding value sumOf twiceArea weight exactShare trianglesOf namedBy cornersAt foldThrees
 not-untouched h = le→leb _ _ (h .near 0 0 (lit< tt) (lit< tt) .within)
 
 pub not-zero : NearExact binary64 names points thick rho allZero → ⊥
-unfolding value mag sign sumOf twiceArea weight exactShare trianglesOf namedBy cornersAt foldThrees
+unfolding value sumOf twiceArea weight exactShare trianglesOf namedBy cornersAt foldThrees
 not-zero h = le→leb _ _ (h .near 0 0 (lit< tt) (lit< tt) .within)
 
 -- vertex 3 is named by the second triangle
 pub not-first-only : NearExact binary64 names points thick rho firstOnly → ⊥
-unfolding value mag sign sumOf twiceArea weight exactShare trianglesOf namedBy cornersAt foldThrees
+unfolding value sumOf twiceArea weight exactShare trianglesOf namedBy cornersAt foldThrees
 not-first-only h = le→leb _ _ (h .near 3 0 (lit< tt) (lit< tt) .within)
