@@ -6,8 +6,9 @@ use Rattle.float.specs.Lists.{every, table as tabled, each, fold, foldThrees}
 use Rattle.root.specs.Root.{rootOf, rootWordOf}
 use Rattle.refusal.specs.Refusal.{accepted, zeroDivisor, firstOf, kernelNumber}
 use Rattle.refusal.specs.Answers.{badEnergyOf, energyOf}
-use Rattle.refusal.specs.Panel.{withinLimits}
+use Rattle.refusal.specs.Panel.{withinLimits, badLengthOf}
 use Rattle.refusal.specs.declared.Energy.{Energy}
+use Rattle.places.specs.Places.{addVertex, addTriangle}
 use Rattle.del_geo_core.specs.Vec3 as vec3
 use Rattle.del_geo_core.specs.Tri2 as tri2
 use Rattle.del_geo_core.specs.Tri3 as tri3
@@ -18,8 +19,7 @@ use Rattle.plate.specs.Bending as bend
 use Rattle.plate.specs.Shear as shear
 use Rattle.plate.specs.Plate as plates
 use Rattle.mitc_tri3.specs.Plate as mitc
-use Rattle.mitc_tri3.specs.Places.{addVertex, addTriangle}
-use Rattle.mitc_tri3.specs.Masses.{cornersAt, badLengthOf, namedFinite, badInputOf, massOf, addMasses, addAll, massesOf, numberOf, bufferOf}
+use Rattle.mitc_tri3.specs.Masses.{cornersAt, namedFinite, badInputOf, massOf, addMasses, addAll, massesOf, numberOf, bufferOf}
 use Rattle.stvk_tri3.specs.Edges as edges
 use Rattle.stvk_tri3.specs.Strain as strain
 use Rattle.stvk_tri3.specs.Stvk as energy

@@ -13,11 +13,12 @@ use borrow.Author.Tests.{not-false}
 use Rattle.float.specs.Lists.{_!_, allFinite, every, total}
 use Rattle.float.proofs.Scan.{both, every-at, every-iff}
 use Rattle.refusal.specs.Refusal.{accepted}
-use Rattle.refusal.specs.Panel.{maxTriangles, namesBelow}
+use Rattle.refusal.specs.Panel.{maxTriangles, badLengthOf, namesBelow}
+use Rattle.refusal.proofs.Panel.{sized}
 use Rattle.mitc_tri3.specs.Example.{points, thick, rho}
-use Rattle.mitc_tri3.specs.Masses.{pointAt, verticesOf, badLengthOf, pointFinite, namedFinite, badInputOf, massesOf, bufferOf, IsMasses}
+use Rattle.mitc_tri3.specs.Masses.{pointAt, verticesOf, pointFinite, namedFinite, badInputOf, massesOf, bufferOf, IsMasses}
 use Rattle.mitc_tri3.specs.Vertex.{trianglesOf, shareOf}
-use Rattle.mitc_tri3.proofs.MassesAnswer.{sized, accepted-exactly, accepted-masses}
+use Rattle.mitc_tri3.proofs.MassesAnswer.{accepted-exactly, accepted-masses}
 use Rattle.mitc_tri3.proofs.Vertex.{masses-sized, masses-hold}
 use Rattle.mass_bounds.specs.Range.{isNumber, wholeAt, inRange}
 use Rattle.mass_bounds.specs.Bounds.{NearExact, Demand3}

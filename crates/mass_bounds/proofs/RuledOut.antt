@@ -6,12 +6,12 @@ use lib.Dec.{lit<, le→leb}
 use lib.Ieee.{binary64, fits}
 use lib.ListN.{length}
 use Rattle.float.specs.Lists.{every, foldThrees}
-use Rattle.refusal.specs.Panel.{withinLimits, namesBelow}
+use Rattle.refusal.specs.Panel.{withinLimits, badLengthOf, namesBelow}
+use Rattle.places.specs.Vertex.{namedBy, givenTo}
 use Rattle.rounding.specs.Exact.{mag, sign, value}
 use Rattle.rounding.specs.Sums.{sumOf}
 use Rattle.mitc_tri3.specs.Example.{points, thick, rho}
-use Rattle.mitc_tri3.specs.Masses.{cornersAt, verticesOf, badLengthOf}
-use Rattle.mitc_tri3.specs.Vertex.{namedBy, trianglesOf}
+use Rattle.mitc_tri3.specs.Masses.{cornersAt, verticesOf}
 use Rattle.mass_bounds.specs.Range.{isWholeUpTo, between, inRange}
 use Rattle.mass_bounds.specs.Shares.{twiceArea, weight, exactShare}
 use Rattle.mass_bounds.specs.Bounds.{NearExact}
@@ -30,14 +30,14 @@ unfolding every
 right-names = refl
 
 pub not-untouched : NearExact binary64 names points thick rho untouched → ⊥
-unfolding value sumOf twiceArea weight exactShare trianglesOf namedBy cornersAt foldThrees
+unfolding value sumOf twiceArea weight exactShare givenTo namedBy cornersAt foldThrees
 not-untouched h = le→leb _ _ (h .near 0 0 (lit< tt) (lit< tt) .within)
 
 pub not-zero : NearExact binary64 names points thick rho allZero → ⊥
-unfolding value sumOf twiceArea weight exactShare trianglesOf namedBy cornersAt foldThrees
+unfolding value sumOf twiceArea weight exactShare givenTo namedBy cornersAt foldThrees
 not-zero h = le→leb _ _ (h .near 0 0 (lit< tt) (lit< tt) .within)
 
 -- vertex 3 is named by the second triangle
 pub not-first-only : NearExact binary64 names points thick rho firstOnly → ⊥
-unfolding value sumOf twiceArea weight exactShare trianglesOf namedBy cornersAt foldThrees
+unfolding value sumOf twiceArea weight exactShare givenTo namedBy cornersAt foldThrees
 not-first-only h = le→leb _ _ (h .near 3 0 (lit< tt) (lit< tt) .within)

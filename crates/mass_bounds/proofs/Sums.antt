@@ -15,9 +15,10 @@ use Rattle.rounding.specs.Exact.{Num, Equal, _⊠_, scale, sizeOf, value}
 use Rattle.rounding.specs.Sums.{sumOf, exactSum, sumTo, exactSumTo}
 use Rattle.rounding.proofs.Error.{within-more, within-change, within-all}
 use Rattle.rounding.proofs.ExactSums.{sum-append, sum-product, sizes-product, sumTo-add, sumTo-same, sumTo-zero, sumTo-one, le-greatest}
+use Rattle.places.specs.Vertex.{when, namedBy, givenTo}
 use Rattle.del_geo_core.specs.declared.tri2.Tri2.{Tri2}
 use Rattle.mitc_tri3.specs.Masses.{cornersAt, verticesOf}
-use Rattle.mitc_tri3.specs.Vertex.{when, namedBy, trianglesOf}
+use Rattle.mitc_tri3.specs.Vertex.{trianglesOf}
 use Rattle.mass_bounds.specs.Shares.{twiceArea, weight, exactShare, exactMass, sizes, namesOf, triangles}
 use Rattle.mass_bounds.specs.Bounds.{NearExact, AddUp, SumNear}
 
@@ -29,7 +30,7 @@ module _ (g : Tri2 → ℕ) (vtx2xy : List Float) where
   once false p = refl
 
   named : (v i0 i1 i2 : ℕ) → let x = g (cornersAt vtx2xy i0 i1 i2) in
-      sumOf g (namedBy v vtx2xy i0 i1 i2) ≡ cond (eqb i0 v) x 0 + cond (eqb i1 v) x 0 + cond (eqb i2 v) x 0
+      sumOf g (namedBy (λ c. cornersAt vtx2xy) v i0 i1 i2) ≡ cond (eqb i0 v) x 0 + cond (eqb i1 v) x 0 + cond (eqb i2 v) x 0
   unfolding namedBy
   named v i0 i1 i2 = simp (sum-append, once)
 
@@ -39,7 +40,7 @@ module _ (g : Tri2 → ℕ) (vtx2xy : List Float) where
     Thrice s t = sumTo (λ v. sumOf g (s v)) n ≡ 3 * sumOf g t
 
     turn : (s : ℕ → List Tri2) (t : List Tri2) (i0 i1 i2 : ℕ) → ltb i0 n ≡ true → ltb i1 n ≡ true → ltb i2 n ≡ true → Thrice s t
-        → Thrice (λ v. s v ++ namedBy v vtx2xy i0 i1 i2) (t ++ (cornersAt vtx2xy i0 i1 i2 ∷ []))
+        → Thrice (λ v. s v ++ namedBy (λ c. cornersAt vtx2xy) v i0 i1 i2) (t ++ (cornersAt vtx2xy i0 i1 i2 ∷ []))
     unfolding Thrice
     turn s t i0 i1 i2 e0 e1 e2 k =
         let p = cornersAt vtx2xy i0 i1 i2 in
@@ -60,7 +61,7 @@ module _ (g : Tri2 → ℕ) (vtx2xy : List Float) where
         )
 
     turns : (l : List ℕ) (s : ℕ → List Tri2) (t : List Tri2) → namesBelow n l ≡ true → Thrice s t
-        → Thrice (λ v. foldThrees (λ l i0 i1 i2. l ++ namedBy v vtx2xy i0 i1 i2) (s v) l) (foldThrees (λ l i0 i1 i2. l ++ (cornersAt vtx2xy i0 i1 i2 ∷ [])) t l)
+        → Thrice (λ v. foldThrees (λ l i0 i1 i2. l ++ namedBy (λ c. cornersAt vtx2xy) v i0 i1 i2) (s v) l) (foldThrees (λ l i0 i1 i2. l ++ (cornersAt vtx2xy i0 i1 i2 ∷ [])) t l)
     unfolding foldThrees every
     turns (i0 ∷ i1 ∷ i2 ∷ l) s t e k =
         let e0 = both (ltb i0 n) _ e in
@@ -83,7 +84,7 @@ module _ (f : Format) (tri2vtx : List ℕ) (vtx2xy : List Float) (thick rho : Fl
   w = weight f 0 thick rho
 
   thrice : (g : Tri2 → ℕ) → sumTo (λ v. sumOf g (trianglesOf v tri2vtx vtx2xy)) n ≡ 3 * sumOf g all
-  unfolding trianglesOf triangles Thrice sumOf
+  unfolding givenTo triangles Thrice sumOf
   thrice g = turns g vtx2xy n tri2vtx (λ v. []) [] names (sumTo-zero n)
 
   exact-thrice : Equal (exactSumTo (exactMass f tri2vtx vtx2xy thick rho 0) n) (scale 3 (exactSum (twiceArea f) all ⊠ w))

@@ -16,9 +16,10 @@ use Rattle.rounding.specs.Error.{Within}
 use Rattle.rounding.specs.Sums.{All, sumOf, exactSum}
 use Rattle.rounding.proofs.Sums.{all-append, all-map}
 use Rattle.rounding.proofs.Margin.{safe-sum}
+use Rattle.places.specs.Vertex.{when, namedBy, givenTo}
 use Rattle.del_geo_core.specs.declared.tri2.Tri2.{Tri2}
 use Rattle.mitc_tri3.specs.Masses.{cornersAt}
-use Rattle.mitc_tri3.specs.Vertex.{when, namedBy, trianglesOf, shareOf}
+use Rattle.mitc_tri3.specs.Vertex.{trianglesOf, shareOf}
 use Rattle.mass_bounds.specs.Range.{unit, wholeAt, inRange}
 use Rattle.mass_bounds.specs.Shares.{exactShare, over}
 use Rattle.mass_bounds.specs.Bounds.{roundings}
@@ -45,7 +46,7 @@ module _ (f : Format) (B v : ℕ) (vtx2xy : List Float) where
   few-append : {n m : ℕ} (l k : List Tri2) → Few n l → Few m k → Few (n + m) (l ++ k)
   few-append l k (a, h) (b, g) = (all-append (Corners f B) l k a b, rw (length-append l k) (omega arith))
 
-  few-named : (i0 i1 i2 : ℕ) → Corners f B (cornersAt vtx2xy i0 i1 i2) → Few 3 (namedBy v vtx2xy i0 i1 i2)
+  few-named : (i0 i1 i2 : ℕ) → Corners f B (cornersAt vtx2xy i0 i1 i2) → Few 3 (namedBy (λ c. cornersAt vtx2xy) v i0 i1 i2)
   unfolding namedBy
   few-named i0 i1 i2 c =
       let p = cornersAt vtx2xy i0 i1 i2 in
@@ -54,11 +55,11 @@ module _ (f : Format) (B v : ℕ) (vtx2xy : List Float) where
       few-append (w i0 ++ w i1) (w i2) (few-append (w i0) (w i1) (h i0) (h i1)) (h i2)
 
   few-triangles : (tri2vtx : List ℕ) → every (wholeAt f B vtx2xy) tri2vtx ≡ true → Few (length tri2vtx) (trianglesOf v tri2vtx vtx2xy)
-  unfolding trianglesOf cornersAt
+  unfolding givenTo cornersAt
   few-triangles tri2vtx e =
       let at = point f B vtx2xy in
       let (a, h) = threes-keep _ (λ n i0 i1 i2. n + 3) (wholeAt f B vtx2xy) (λ l n. Few n l)
-      (λ l n i0 i1 i2 e0 e1 e2 few. few-append l (namedBy v vtx2xy i0 i1 i2) few (few-named i0 i1 i2 (at i0 e0, at i1 e1, at i2 e2)))
+      (λ l n i0 i1 i2 e0 e1 e2 few. few-append l (namedBy (λ c. cornersAt vtx2xy) v i0 i1 i2) few (few-named i0 i1 i2 (at i0 e0, at i1 e1, at i2 e2)))
       tri2vtx [] 0 e (tt, lit≤ tt) in
       (a, omega (arith, h, count tri2vtx 0))
 

@@ -7,11 +7,11 @@ use lib.Ieee.{Float, Format, prec}
 use lib.ListN.{length}
 use Rattle.float.specs.Lists.{_!_, every}
 use Rattle.refusal.specs.Refusal.{accepted}
-use Rattle.refusal.specs.Panel.{namesBelow}
+use Rattle.refusal.specs.Panel.{badLengthOf, namesBelow}
 use Rattle.rounding.specs.Exact.{Equal, _⊠_, scale, sizeOf, value}
 use Rattle.rounding.specs.Error.{Within}
 use Rattle.rounding.specs.Sums.{sumOf, exactSum, exactSumTo, greatest}
-use Rattle.mitc_tri3.specs.Masses.{verticesOf, badLengthOf}
+use Rattle.mitc_tri3.specs.Masses.{verticesOf}
 use Rattle.mass_bounds.specs.Range.{unit, isNumber}
 use Rattle.mass_bounds.specs.Shares.{triangles, namesOf, twiceArea, weight, over, exactMass, sizes}
 

@@ -1,4 +1,3 @@
 pub mod PlateAnswer
 pub mod MassesAnswer
-pub mod Places
 pub mod Vertex

@@ -69,7 +69,7 @@ pub fn mass_lumped_plate_bending(
     ensures { λ r. ⌜ IsMasses binary64 (now («tri2vtx» .entry)) (now («vtx2xy» .entry)) thick rho (now («vtx2mass» .entry)) r (now («vtx2mass» .exit)) ⌝ }
 {
     let vertices = vtx2xy.len() / 2;
-    if masses::bad_length(vertices, tri2vtx.len(), vtx2mass.len()) {
+    if refusal::bad_length(vertices, tri2vtx.len(), vtx2mass.len()) {
         return BAD_LENGTH;
     }
     if !refusal::names_below(tri2vtx, vertices) {

@@ -7,7 +7,7 @@ use lib.Ieee.{Float, Format}
 use Rattle.float.proofs.Unique.{only}
 use Rattle.refusal.specs.Refusal.{kernelNumber}
 use Rattle.refusal.specs.Answers.{badEnergyOf, energyOf}
-use Rattle.refusal.specs.Panel.{withinLimits, namesBelow}
+use Rattle.refusal.specs.Panel.{badLengthOf, namesBelow}
 use Rattle.refusal.specs.declared.Energy.{Energy}
 
 pub first : (test : Bool) (number later : ℕ) {r q : ℕ} → r ≡ cond test number later → q ≡ cond test number later → r ≡ q
@@ -24,8 +24,8 @@ pub answer-energy : (f : Format) (number : ℕ) (w : Float) (dw ddw : List Float
     → q ≡ energyOf f number w dw ddw → r ≡ q
 answer-energy f number w dw ddw = only
 
-pub within-limits : (vertices names : ℕ) {r q : Bool} → r ≡ withinLimits vertices names → q ≡ withinLimits vertices names → r ≡ q
-within-limits vertices names = only
+pub bad-length : (vertices names places : ℕ) {r q : Bool} → r ≡ badLengthOf vertices names places → q ≡ badLengthOf vertices names places → r ≡ q
+bad-length vertices names places = only
 
 pub names-below : (count : ℕ) (names : List ℕ) {r q : Bool} → r ≡ namesBelow count names → q ≡ namesBelow count names → r ≡ q
 names-below count names = only

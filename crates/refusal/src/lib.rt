@@ -4,7 +4,7 @@ ghost use mathlib.Core.Bool.{cond};
 ghost use lib.Ieee.{binary64};
 ghost use Rattle.refusal.specs.Refusal.{kernelNumber};
 ghost use Rattle.refusal.specs.Answers.{badEnergyOf, energyOf};
-ghost use Rattle.refusal.specs.Panel.{withinLimits, namesBelow};
+ghost use Rattle.refusal.specs.Panel.{withinLimits, badLengthOf, namesBelow};
 
 pub const ACCEPTED: u32 = 0;
 // A length or a limit is wrong.
@@ -72,10 +72,20 @@ pub fn answer_energy(number: u32, w: f64, dw: [f64; 9], ddw: [f64; 81]) -> Energ
 }
 
 // Whether a panel of so many vertices and so many names, three for each triangle, is within the limits.
-pub fn within_limits(vertices: usize, names: usize) -> bool
+fn within_limits(vertices: usize, names: usize) -> bool
     ensures { λ r. ⌜ r ≡ withinLimits vertices names ⌝ }
 {
     (vertices <= MAX_VERTICES) & (names % 3 == 0) & (names / 3 <= MAX_TRIANGLES)
+}
+
+// A limit is passed, or a list has not three places for each vertex: within the limits three times the vertices cannot wrap.
+pub fn bad_length(vertices: usize, names: usize, places: usize) -> bool
+    ensures { λ r. ⌜ r ≡ badLengthOf vertices names places ⌝ }
+{
+    if !within_limits(vertices, names) {
+        return true;
+    }
+    places != vertices * 3
 }
 
 // Whether each name is that of one of so many vertices.

@@ -1,8 +1,8 @@
--- `masses::add_at` meets its contract: the code is the definition.
+-- `places::add_at` meets its contract: the code is the definition.
 use mathlib.Core.Path.{refl}
 use borrow.Author.Needs.{needs}
-use Rattle.mitc_tri3.proofs.masses.add_at.Statement.{statement}
-use Rattle.mitc_tri3.proofs.masses.add_at.Tie as tie
+use Rattle.places.proofs.add_at.Statement.{statement}
+use Rattle.places.proofs.add_at.Tie as tie
 
 pub add-at-spec : {M : Type 1} → statement M
 add-at-spec = tie.close (tie.spec (λ c. search needs) (λ c. search needs) (λ c. search needs) (λ c. search needs) (λ c. refl))

@@ -1,11 +1,11 @@
--- `masses::bad_length` meets its contract: within the limits three times the vertices cannot wrap.
+-- `refusal::bad_length` meets its contract: within the limits three times the vertices cannot wrap.
 use mathlib.Core.Path.{sym, _∙_}
 use native.Mathlib.Omega.{arith}
 use borrow.Author.Tests.{not-true, not-false}
+use Rattle.refusal.specs.Panel.{badLengthOf}
 use Rattle.refusal.proofs.Panel.{within}
-use Rattle.mitc_tri3.specs.Masses.{badLengthOf}
-use Rattle.mitc_tri3.proofs.masses.bad_length.Statement.{statement}
-use Rattle.mitc_tri3.proofs.masses.bad_length.Tie as tie
+use Rattle.refusal.proofs.bad_length.Statement.{statement}
+use Rattle.refusal.proofs.bad_length.Tie as tie
 
 pub bad-length-spec : {M : Type 1} → statement M
 unfolding badLengthOf

@@ -2,18 +2,18 @@
 use mathlib.Core.Path.{_≡_, refl, _∙_}
 use mathlib.Core.Bool.{Bool, true, false, cond}
 use mathlib.Core.List.{List}
-use Prim.Native.Nat.{ℕ, zero, suc, _+_, _*_, _<_}
+use Prim.Native.Nat.{ℕ, zero, suc, _+_, _*_, _/_, _<_}
 use native.Mathlib.Nat.{add-zero}
 use native.Mathlib.Omega.{arith}
-use lib.Dec.{eqb}
+use lib.Dec.{eqb, ltb}
 use lib.ListN.{length, length-set}
 use lib.Seq.{getD-set-same, getD-set-other}
 use lib.Ieee.{Float, Format, nan}
-use borrow.Author.Tests.{eqb-true, eqb-false}
+use borrow.Author.Tests.{eqb-true, eqb-false, lt-ltb}
 use Rattle.float.specs.Lists.{_!_}
 use Rattle.float.specs.Ops.{Ops, ops}
 use Rattle.del_geo_core.specs.declared.vec3.V3.{V3}
-use Rattle.mitc_tri3.specs.Places.{component, addAt, addVertex, addTriangle}
+use Rattle.places.specs.Places.{component, addAt, addVertex, addTriangle, addedOf}
 
 module _ (f : Format) where
   open Ops (ops f) using (_⊕_)
@@ -32,6 +32,14 @@ module _ (f : Format) where
   pub triangle-length : (values : List Float) (i0 i1 i2 : ℕ) (x0 x1 x2 : V3) → length (addTriangle f values i0 i1 i2 x0 x1 x2) ≡ length values
   unfolding addTriangle
   triangle-length values i0 i1 i2 x0 x1 x2 = simp vertex-length
+
+  -- nothing is left out where each name is a vertex's
+  pub added : (values : List Float) (i0 i1 i2 : ℕ) (x0 x1 x2 : V3) (n : ℕ) → length values ≡ n * 3 → i0 < n → i1 < n → i2 < n
+      → addedOf f values i0 i1 i2 x0 x1 x2 ≡ addTriangle f values i0 i1 i2 x0 x1 x2
+  unfolding addedOf
+  added values i0 i1 i2 x0 x1 x2 n size h0 h1 h2 =
+      let below : (i : ℕ) → i < n → ltb i (length values / 3) ≡ true = λ i h. lt-ltb i _ (omega arith) in
+      rw (below i0 h0, below i1 h1, below i2 h2)
 
   module _ (values : List Float) (i : ℕ) (x : V3) where
     abbrev one : List Float

@@ -1,8 +1,8 @@
--- `masses::add_vertex` meets its contract: what its calls ensure, put in one after the other, is the definition.
+-- `places::add_vertex` meets its contract: what its calls ensure, put in one after the other, is the definition.
 use borrow.Author.Needs.{needs}
-use Rattle.mitc_tri3.specs.Places.{addVertex}
-use Rattle.mitc_tri3.proofs.masses.add_vertex.Statement.{statement}
-use Rattle.mitc_tri3.proofs.masses.add_vertex.Tie as tie
+use Rattle.places.specs.Places.{addVertex}
+use Rattle.places.proofs.add_vertex.Statement.{statement}
+use Rattle.places.proofs.add_vertex.Tie as tie
 
 pub add-vertex-spec : {M : Type 1} → statement M
 unfolding addVertex
