@@ -1,10 +1,12 @@
 -- When a kernel gives which number, test by test: instances of the ladder's law.
-use mathlib.Core.Path.{refl}
-use mathlib.Core.Bool.{Bool}
+use mathlib.Core.Path.{_≡_, refl}
+use mathlib.Core.Bool.{Bool, true, false}
 use mathlib.Core.List.{[], _∷_}
+use Prim.Native.Nat.{ℕ, _<_}
+use native.Mathlib.Omega.{arith}
 use borrow.Author.Tests.{eqb-false}
 use Rattle.float.specs.Lists.{every}
-use Rattle.refusal.specs.Refusal.{accepted, badInput, zeroDivisor, badAnswer, Row, _⇒_, kernelNumber, KernelExactly}
+use Rattle.refusal.specs.Refusal.{accepted, badName, badInput, zeroDivisor, badAnswer, Row, _⇒_, kernelNumber, KernelExactly}
 use Rattle.refusal.proofs.Ladder.{none, exactly, accepted-exactly}
 
 module _ (inputBad divisorZero answerBad : Bool) where
@@ -39,3 +41,10 @@ module _ (inputBad divisorZero answerBad : Bool) where
           (λ h. e0 .1 (n (divisor ∷ answer ∷ []) .1 (h .0, m (answer ∷ []) .1 (h .1, l [] .1 (h .2, refl))))),
         );
       }
+
+-- a kernel that refuses gives 3, 4 or 5
+pub kernel-above : (n : ℕ) (inputBad divisorZero answerBad : Bool) → KernelExactly n inputBad divisorZero answerBad → (n ≡ accepted → ⊥) → badName < n
+kernel-above n true divisorZero answerBad is z = omega (arith, is .refused-3-exactly .1 refl)
+kernel-above n false true answerBad is z = omega (arith, is .refused-4-exactly .1 (refl, refl))
+kernel-above n false false true is z = omega (arith, is .refused-5-exactly .1 (refl, refl, refl))
+kernel-above n false false false is z = absurd (z (is .accepted-exactly .1 (refl, refl, refl)))

@@ -2,3 +2,4 @@ pub mod Ladder
 pub mod KernelNumber
 pub mod Unique
 pub mod Panel
+pub mod Listed

@@ -1,3 +1,4 @@
 pub mod Refusal
 pub mod Answers
 pub mod Panel
+pub mod Listed

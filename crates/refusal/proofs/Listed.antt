@@ -1,0 +1,71 @@
+-- The first that refuses, and its place: by induction on the numbers.
+use mathlib.Core.Path.{_≡_, refl, sym, ap}
+use mathlib.Core.Bool.{false}
+use mathlib.Core.List.{List, [], _∷_}
+use mathlib.Core.Logic.{_↔_}
+use Prim.Native.Nat.{ℕ, zero, suc, _<_}
+use native.Mathlib.Omega.{arith}
+use lib.Dec.{eqb}
+use lib.ListN.{length, getD}
+use borrow.Author.Tests.{ne-eqb}
+use Rattle.refusal.specs.Refusal.{accepted}
+use Rattle.refusal.specs.Listed.{firstRefusal, firstPlace, FirstAt, NoneRefused}
+
+refuses : (m : ℕ) → eqb (suc m) accepted ≡ false
+refuses m = ne-eqb (suc m) accepted (λ (e : suc m ≡ accepted). omega arith)
+
+-- a number that is accepted is passed over, any other is the first that refuses
+pub passed-over : (n : ℕ) (numbers : List ℕ) → n ≡ accepted → (firstRefusal (n ∷ numbers) ≡ firstRefusal numbers) × (firstPlace (n ∷ numbers) ≡ suc (firstPlace numbers))
+unfolding firstRefusal firstPlace
+passed-over n numbers e = rw e (refl, refl)
+
+pub is-first : (n : ℕ) (numbers : List ℕ) → (n ≡ accepted → ⊥) → (firstRefusal (n ∷ numbers) ≡ n) × (firstPlace (n ∷ numbers) ≡ 0)
+unfolding firstRefusal firstPlace
+is-first n numbers z = rw (ne-eqb n accepted z) (refl, refl)
+
+module _ (n : ℕ) (z : n ≡ accepted → ⊥) where
+  found : (numbers : List ℕ) (k : ℕ) → firstRefusal numbers ≡ n → firstPlace numbers ≡ k → FirstAt numbers k n
+  unfolding firstRefusal firstPlace
+  found [] k e g = absurd (z (sym e))
+  found (zero ∷ numbers) zero e g = absurd (omega arith)
+  found (zero ∷ numbers) (suc k) e g = let at = found numbers k e (omega arith) in (at .0, before at)
+    where
+      before : FirstAt numbers k n → (j : ℕ) → j < suc k → getD (zero ∷ numbers) j accepted ≡ accepted
+      before at zero h = refl
+      before at (suc j) h = at .1 j (omega arith)
+  found (suc m ∷ numbers) zero e g = (rw (refuses m) at e, λ j h. absurd (omega arith))
+  found (suc m ∷ numbers) (suc k) e g = absurd (omega (arith, rw (refuses m) at g))
+
+  given : (numbers : List ℕ) (k : ℕ) → FirstAt numbers k n → (firstRefusal numbers ≡ n) × (firstPlace numbers ≡ k)
+  unfolding firstRefusal firstPlace
+  given [] k (e, b) = absurd (z (sym e))
+  given (zero ∷ numbers) zero (e, b) = absurd (z (sym e))
+  given (zero ∷ numbers) (suc k) (e, b) = let is = given numbers k (e, λ j h. b (suc j) (omega arith)) in (is .0, ap suc (is .1))
+  given (suc m ∷ numbers) zero (e, b) = rw (refuses m) (e, refl)
+  given (suc m ∷ numbers) (suc k) (e, b) = absurd (omega (arith, b 0 (omega arith)))
+
+  -- THE law of the first that refuses
+  pub first-exactly : (numbers : List ℕ) (k : ℕ) → ((firstRefusal numbers ≡ n) × (firstPlace numbers ≡ k)) ↔ FirstAt numbers k n
+  first-exactly numbers k = ((λ h. found numbers k (h .0) (h .1)), given numbers k)
+
+all : (numbers : List ℕ) → firstRefusal numbers ≡ accepted → NoneRefused numbers
+unfolding firstRefusal
+all [] e j = refl
+all (zero ∷ numbers) e zero = refl
+all (zero ∷ numbers) e (suc j) = all numbers e j
+all (suc m ∷ numbers) e j = absurd (omega (arith, rw (refuses m) at e))
+
+none : (numbers : List ℕ) → NoneRefused numbers → firstRefusal numbers ≡ accepted
+unfolding firstRefusal
+none [] h = refl
+none (zero ∷ numbers) h = none numbers (λ j. h (suc j))
+none (suc m ∷ numbers) h = rw (refuses m) (h 0)
+
+pub none-exactly : (numbers : List ℕ) → firstRefusal numbers ≡ accepted ↔ NoneRefused numbers
+none-exactly numbers = (all numbers, none numbers)
+
+pub none-place : (numbers : List ℕ) → firstRefusal numbers ≡ accepted → firstPlace numbers ≡ length numbers
+unfolding firstRefusal firstPlace
+none-place [] e = refl
+none-place (zero ∷ numbers) e = ap suc (none-place numbers e)
+none-place (suc m ∷ numbers) e = absurd (omega (arith, rw (refuses m) at e))

@@ -1,0 +1,173 @@
+// The StVK energy of a whole skin, with its gradient: what `stvk_tri3::wdwddw_` gives for each triangle, added in the list's order from +0.
+ghost use mathlib.Core.Path.{_≡_};
+ghost use mathlib.Core.Bool.{true};
+ghost use Prim.Native.Nat.{_+_, _*_, _%_, _<_};
+ghost use lib.Ieee.{binary64};
+ghost use lib.ListN.{length};
+ghost use Rattle.refusal.specs.Panel.{namesBelow};
+ghost use Rattle.del_geo_core.specs.Vec3.{pointOf};
+ghost use Rattle.places.specs.Places.{addedOf};
+ghost use Rattle.skin.specs.Skin.{pointAt, cornersAt, verticesOf, answerOf, badLengthOf, badSumOf, refusedOf, IsSum, IsSkin};
+use del_geo_core::vec3;
+use refusal::ACCEPTED;
+use refusal::BAD_ANSWER;
+use refusal::BAD_LENGTH;
+use refusal::BAD_NAME;
+use refusal::Energy;
+
+// The refusal number; where the triangle that was refused stands in the list, counted from 0, or how many there are where only a sum was; the energy.
+pub struct Skin {
+    pub number: u32,
+    pub place: usize,
+    pub w: f64,
+}
+
+// From the lists' lengths.
+fn bad_length(ini: usize, def: usize, names: usize, places: usize) -> bool
+    ensures { λ r. ⌜ r ≡ badLengthOf ini def names places ⌝ }
+{
+    !(!refusal::bad_length(ini / 3, names, places) & (ini == places) & (def == places))
+}
+
+fn bad_sum(w: f64, vtx2dw: &[f64]) -> bool
+    ensures { λ r. ⌜ r ≡ badSumOf w (now («vtx2dw» .entry)) ⌝ }
+{
+    !(float::is_finite(w) & float::all_finite(vtx2dw))
+}
+
+fn refused(number: u32, place: usize) -> Skin
+    ensures { λ r. ⌜ r ≡ refusedOf binary64 number place ⌝ }
+{
+    Skin {
+        number,
+        place,
+        w: 0.0,
+    }
+}
+
+// Point i, of a flat list of three numbers for each.
+fn point_at(xyz: &[f64], i: usize) -> [f64; 3]
+    requires { ⌜ i * 3 + 2 < length (now xyz) ⌝ }
+    ensures { λ r. ⌜ r ≡ pointAt (now (xyz .entry)) i ⌝ }
+{
+    [xyz[i * 3], xyz[i * 3 + 1], xyz[i * 3 + 2]]
+}
+
+fn corners_at(vtx2xyz: &[f64], i0: usize, i1: usize, i2: usize) -> [[f64; 3]; 3]
+    requires { ⌜ i0 * 3 + 2 < length (now «vtx2xyz») ⌝ }
+    requires { ⌜ i1 * 3 + 2 < length (now «vtx2xyz») ⌝ }
+    requires { ⌜ i2 * 3 + 2 < length (now «vtx2xyz») ⌝ }
+    ensures { λ r. ⌜ r ≡ cornersAt (now («vtx2xyz» .entry)) i0 i1 i2 ⌝ }
+{
+    [
+        point_at(vtx2xyz, i0),
+        point_at(vtx2xyz, i1),
+        point_at(vtx2xyz, i2),
+    ]
+}
+
+// The single kernel's answer for one triangle.
+fn answer(
+    vtx2ini: &[f64],
+    vtx2def: &[f64],
+    lambda: f64,
+    myu: f64,
+    i0: usize,
+    i1: usize,
+    i2: usize,
+) -> Energy
+    requires { ⌜ length (now «vtx2def») ≡ length (now «vtx2ini») ⌝ }
+    requires { ⌜ i0 * 3 + 2 < length (now «vtx2ini») ⌝ }
+    requires { ⌜ i1 * 3 + 2 < length (now «vtx2ini») ⌝ }
+    requires { ⌜ i2 * 3 + 2 < length (now «vtx2ini») ⌝ }
+    ensures { λ r. ⌜ r ≡ answerOf binary64 (now («vtx2ini» .entry)) (now («vtx2def» .entry)) lambda myu i0 i1 i2 ⌝ }
+{
+    let p0 = corners_at(vtx2ini, i0, i1, i2);
+    let p1 = corners_at(vtx2def, i0, i1, i2);
+    stvk_tri3::wdwddw_(p0, p1, lambda, myu)
+}
+
+// A triangle's gradient, to its three names.
+fn add_gradient(vtx2dw: &mut [f64], i0: usize, i1: usize, i2: usize, dw: [f64; 9])
+    ensures { λ _. ⌜ now («vtx2dw» .exit) ≡ addedOf binary64 (now («vtx2dw» .entry)) i0 i1 i2 (pointOf (pointAt dw 0)) (pointOf (pointAt dw 1)) (pointOf (pointAt dw 2)) ⌝ }
+{
+    let x0 = vec3::point(point_at(&dw, 0));
+    let x1 = vec3::point(point_at(&dw, 1));
+    let x2 = vec3::point(point_at(&dw, 2));
+    places::add_triangle(vtx2dw, i0, i1, i2, x0, x1, x2);
+}
+
+// The triangles in the list's order, up to the first that is refused.
+fn add_all(
+    vtx2ini: &[f64],
+    vtx2def: &[f64],
+    tri2vtx: &[usize],
+    lambda: f64,
+    myu: f64,
+    vtx2dw: &mut [f64],
+) -> Skin
+    requires { ⌜ length (now «vtx2def») ≡ length (now «vtx2ini») ⌝ }
+    requires { ⌜ length (now «vtx2dw») ≡ length (now «vtx2ini») ⌝ }
+    requires { ⌜ length (now «vtx2ini») % 3 ≡ 0 ⌝ }
+    requires { ⌜ length (now «tri2vtx») % 3 ≡ 0 ⌝ }
+    requires { ⌜ namesBelow (verticesOf (now «vtx2ini»)) (now «tri2vtx») ≡ true ⌝ }
+    ensures { λ r. ⌜ IsSum binary64 (now («vtx2ini» .entry)) (now («vtx2def» .entry)) (now («tri2vtx» .entry)) lambda myu (now («vtx2dw» .entry)) r (now («vtx2dw» .exit)) ⌝ }
+{
+    let mut w = 0.0;
+    let mut i = 0;
+    while i < tri2vtx.len() {
+        let i0 = tri2vtx[i];
+        let i1 = tri2vtx[i + 1];
+        let i2 = tri2vtx[i + 2];
+        let e = answer(vtx2ini, vtx2def, lambda, myu, i0, i1, i2);
+        if e.number != ACCEPTED {
+            return Skin {
+                number: e.number,
+                place: i / 3,
+                w,
+            };
+        }
+        w += e.w;
+        let dw = e.dw;
+        add_gradient(vtx2dw, i0, i1, i2, dw);
+        i += 3;
+    }
+    Skin {
+        number: ACCEPTED,
+        place: i / 3,
+        w,
+    }
+}
+
+// The energy of the skin that has the points vtx2ini at rest and vtx2def deformed, and its gradient by the deformed points into vtx2dw, three numbers for each point in all
+// three. Nothing is written before every name is looked at.
+pub fn wdw(
+    vtx2ini: &[f64],
+    vtx2def: &[f64],
+    tri2vtx: &[usize],
+    lambda: f64,
+    myu: f64,
+    vtx2dw: &mut [f64],
+) -> Skin
+    ensures { λ r. ⌜ IsSkin binary64 (now («vtx2ini» .entry)) (now («vtx2def» .entry)) (now («tri2vtx» .entry)) lambda myu (now («vtx2dw» .entry)) r (now («vtx2dw» .exit)) ⌝ }
+{
+    if bad_length(vtx2ini.len(), vtx2def.len(), tri2vtx.len(), vtx2dw.len()) {
+        return refused(BAD_LENGTH, 0);
+    }
+    if !refusal::names_below(tri2vtx, vtx2ini.len() / 3) {
+        return refused(BAD_NAME, 0);
+    }
+    float::clear(vtx2dw);
+    let sum = add_all(vtx2ini, vtx2def, tri2vtx, lambda, myu, vtx2dw);
+    let last = refusal::first(bad_sum(sum.w, vtx2dw), BAD_ANSWER, ACCEPTED);
+    let number = refusal::first(sum.number != ACCEPTED, sum.number, last);
+    if number != ACCEPTED {
+        float::clear(vtx2dw);
+        return refused(number, sum.place);
+    }
+    Skin {
+        number,
+        place: 0,
+        w: sum.w,
+    }
+}
