@@ -3,3 +3,4 @@ pub mod KernelNumber
 pub mod Unique
 pub mod Panel
 pub mod Listed
+pub mod ListedNumber

@@ -1,40 +1,29 @@
--- What `wdw` answers, in the request's words: one answer fits; each number is given, and at which place, exactly where its test holds and that of nothing before it does; and
--- what is left in the buffer after each.
+-- What `wdw` answers, in the request's words: one answer fits; each number is given, and for which place, exactly where its test holds and nothing before it is refused; and
+-- what the energy and the buffer are after each.
 use mathlib.Core.Path.{_≡_, refl}
 use mathlib.Core.Bool.{Bool, true, false, not, cond, _&&_}
-use mathlib.Core.List.{List, [], _∷_}
-use Prim.Native.Nat.{ℕ, _/_, _%_, _<_}
+use mathlib.Core.List.{List}
+use Prim.Native.Nat.{ℕ, _+_, _*_, _/_, _%_, _≤_, _<_}
 use native.Mathlib.Omega.{arith}
-use lib.Dec.{eqb}
+use lib.Dec.{eqb, leb, ltb}
 use lib.Ieee.{Float, Format}
-use lib.ListN.{length}
-use borrow.Author.Tests.{eqb-true, eqb-false, not-true, not-false}
-use Rattle.float.specs.Lists.{mapThrees}
+use lib.ListN.{length, getD, List·getD-eq-default}
+use borrow.Author.Tests.{eqb-true, ne-eqb, ltb-true, ltb-false, le-leb, lt-leb, not-true, not-false}
+use Rattle.float.specs.Lists.{cleared}
+use Rattle.float.specs.Ops.{Ops, ops}
+use Rattle.float.proofs.Fold.{map-length, map-at}
 use Rattle.float.proofs.Scan.{both}
 use Rattle.float.proofs.Unique.{only}
-use Rattle.refusal.specs.Refusal.{accepted, badName, badAnswer, firstOf}
+use Rattle.refusal.specs.Refusal.{accepted, badName}
 use Rattle.refusal.specs.Panel as panel
 use Rattle.refusal.specs.Panel.{namesBelow}
-use Rattle.refusal.specs.Listed.{firstRefusal}
+use Rattle.refusal.specs.Listed.{ListedExactly}
 use Rattle.refusal.proofs.Panel as panels
 use Rattle.refusal.proofs.KernelNumber.{kernel-above}
+use Rattle.refusal.proofs.ListedNumber.{listed-exactly}
 use Rattle.stvk_tri3.proofs.EnergyAnswer as energy
-use Rattle.skin.specs.Skin.{cornersAt, verticesOf, badLengthOf, badSumOf, answerOf, numbersOf, energyOf, gradientOf, numberOf, IsSkin}
+use Rattle.skin.specs.Skin.{cornersAt, verticesOf, badLengthOf, badSumOf, answerOf, numbersOf, energyOf, gradientOf, numberOf, skinOf, bufferOf, IsSkin}
 use Rattle.skin.specs.declared.Skin.{Skin}
-
--- the first that refuses does so with a number that each may refuse with
-module _ (g : ℕ → ℕ → ℕ → ℕ) (above : (i0 i1 i2 : ℕ) → (g i0 i1 i2 ≡ accepted → ⊥) → badName < g i0 i1 i2) where
-  first-above : (l : List ℕ) → (firstRefusal (mapThrees g l) ≡ accepted → ⊥) → badName < firstRefusal (mapThrees g l)
-  unfolding firstRefusal mapThrees
-  first-above (i0 ∷ i1 ∷ i2 ∷ l) z = split (eqb (g i0 i1 i2) accepted) (first-above l) z
-    where
-      split : (b : Bool) → let first = firstRefusal (mapThrees g l) in ((first ≡ accepted → ⊥) → badName < first)
-          → (cond b first (g i0 i1 i2) ≡ accepted → ⊥) → badName < cond b first (g i0 i1 i2)
-      split true later z = later z
-      split false later z = above i0 i1 i2 z
-  first-above (i0 ∷ i1 ∷ []) z = absurd (z refl)
-  first-above (i0 ∷ []) z = absurd (z refl)
-  first-above [] z = absurd (z refl)
 
 module _ (f : Format) (vtx2ini vtx2def : List Float) (tri2vtx : List ℕ) (lambda myu : Float) (before : List Float) where
   -- no second answer fits
@@ -54,23 +43,63 @@ module _ (f : Format) (vtx2ini vtx2def : List Float) (tri2vtx : List ℕ) (lambd
   abbrev pub sumBad : Bool
   sumBad = badSumOf (energyOf f vtx2ini vtx2def lambda myu tri2vtx) (gradientOf f vtx2ini vtx2def lambda myu tri2vtx before)
 
-  -- a triangle is refused with 3, 4 or 5
-  pub triangle-above : (firstRefusal numbers ≡ accepted → ⊥) → badName < firstRefusal numbers
-  unfolding numbersOf answerOf
-  triangle-above =
-      first-above _ (λ i0 i1 i2. kernel-above _ _ _ _
-      (energy.numbers-exactly f (cornersAt vtx2ini i0 i1 i2) (cornersAt vtx2def i0 i1 i2) lambda myu refl)) tri2vtx
+  -- the number of triangle k
+  pub number-at : (k : ℕ) → k * 3 + 2 < length tri2vtx
+      → getD numbers k accepted ≡ answerOf f vtx2ini vtx2def lambda myu (getD tri2vtx (k * 3) 0) (getD tri2vtx (k * 3 + 1) 0) (getD tri2vtx (k * 3 + 2) 0) .number
+  unfolding numbersOf
+  number-at k h = map-at _ tri2vtx k 0 accepted h
 
-  -- and so is what comes after lengths and names
-  pub later-above : lengthBad ≡ false → nameBad ≡ false → let number = numberOf f vtx2ini vtx2def lambda myu tri2vtx before in (number ≡ accepted → ⊥) → badName < number
-  unfolding numberOf firstOf
-  later-above e1 e2 = rw (e1, e2) (split (eqb (firstRefusal numbers) accepted) refl sumBad)
+  pub count : length numbers ≡ length tri2vtx / 3
+  unfolding numbersOf
+  count = map-length _ tri2vtx
+
+  kernel : (i0 i1 i2 : ℕ) → let n = answerOf f vtx2ini vtx2def lambda myu i0 i1 i2 .number in (n ≡ accepted → ⊥) → badName < n
+  unfolding answerOf
+  kernel i0 i1 i2 = kernel-above _ _ _ _ (energy.numbers-exactly f (cornersAt vtx2ini i0 i1 i2) (cornersAt vtx2def i0 i1 i2) lambda myu refl)
+
+  -- a triangle is refused with 3, 4 or 5
+  pub above : (k : ℕ) → (getD numbers k accepted ≡ accepted → ⊥) → badName < getD numbers k accepted
+  above k z = split (ltb (k * 3 + 2) (length tri2vtx)) refl
     where
-      split : (b : Bool) → eqb (firstRefusal numbers) accepted ≡ b → (s : Bool) → let number = cond (not b) (firstRefusal numbers) (cond s badAnswer accepted) in
-          (number ≡ accepted → ⊥) → badName < number
-      split true e true z = omega arith
-      split true e false z = absurd (z refl)
-      split false e s z = triangle-above (eqb-false _ _ e)
+      split : (b : Bool) → ltb (k * 3 + 2) (length tri2vtx) ≡ b → badName < getD numbers k accepted
+      split true e =
+          let at = number-at k (ltb-true _ _ e) in
+          rw at (kernel _ _ _ (rw at at z))
+      split false e =
+          let past : length numbers ≤ k = omega (arith, count, ltb-false (k * 3 + 2) (length tri2vtx) e) in
+          absurd (z (List·getD-eq-default numbers accepted past))
+
+  module _ {r : Skin} {after : List Float} (is : IsSkin f vtx2ini vtx2def tri2vtx lambda myu before r after) where
+    open Ops (ops f) using (zero)
+
+    -- THE theorem of the number and the place
+    pub numbers-exactly : ListedExactly (r .number) (r .place) lengthBad nameBad numbers sumBad
+    unfolding numberOf skinOf
+    numbers-exactly = rw (is .0) (listed-exactly lengthBad nameBad numbers sumBad above)
+
+    -- what the number says of the energy and of the buffer
+    energy-left : r .w ≡ cond (eqb (r .number) accepted) (energyOf f vtx2ini vtx2def lambda myu tri2vtx) zero
+    unfolding skinOf
+    energy-left = rw (is .0)
+
+    left : after ≡ cond (eqb (r .number) accepted) (gradientOf f vtx2ini vtx2def lambda myu tri2vtx before) (cond (leb (r .number) badName) before (cleared f before))
+    unfolding skinOf bufferOf
+    left = rw (is .0) (is .1)
+
+    pub accepted-sums : r .number ≡ accepted
+        → (r .w ≡ energyOf f vtx2ini vtx2def lambda myu tri2vtx) × (after ≡ gradientOf f vtx2ini vtx2def lambda myu tri2vtx before)
+    accepted-sums e = (rw e at energy-left, rw e at left)
+
+    pub refused-energy : (r .number ≡ accepted → ⊥) → r .w ≡ zero
+    refused-energy z = rw (ne-eqb _ accepted z) at energy-left
+
+    -- after 1 and 2
+    pub refused-unchanged : (r .number ≡ accepted → ⊥) → r .number ≤ badName → after ≡ before
+    refused-unchanged z h = rw (ne-eqb _ accepted z, le-leb _ badName h) at left
+
+    -- after any other refusal
+    pub refused-cleared : badName < r .number → after ≡ cleared f before
+    refused-cleared h = rw (ne-eqb _ accepted (λ (e : r .number ≡ accepted). omega arith), lt-leb _ badName h) at left
 
 -- what is known of the lengths where they are right
 pub sized : (ini def names places : ℕ) → badLengthOf ini def names places ≡ false → (names % 3 ≡ 0) × (ini % 3 ≡ 0) × (ini ≡ places) × (def ≡ places)

@@ -9,10 +9,10 @@ use lib.Ieee.Scale.{finite}
 use lib.ListN.{length}
 use Rattle.float.specs.Lists.{_!_, allFinite, cleared, foldThrees, mapThrees}
 use Rattle.float.specs.Ops.{Ops, ops}
-use Rattle.refusal.specs.Refusal.{accepted, badLength, badName, badAnswer, _⇒_, firstOf}
+use Rattle.refusal.specs.Refusal.{accepted, badName}
 use Rattle.refusal.specs.Panel as panel
 use Rattle.refusal.specs.Panel.{namesBelow}
-use Rattle.refusal.specs.Listed.{firstRefusal, firstPlace}
+use Rattle.refusal.specs.Listed.{firstRefusal, firstPlace, listedNumber, listedPlace}
 use Rattle.refusal.specs.declared.Energy.{Energy}
 use Rattle.del_geo_core.specs.Tri3.{cornersOf}
 use Rattle.del_geo_core.specs.Vec3.{pointOf}
@@ -72,16 +72,12 @@ module _ (f : Format) where
 
         unfoldable pub numberOf : ℕ
         numberOf =
-            let triangle = firstRefusal numbersOf in
-            firstOf (badLengthOf (length vtx2ini) (length vtx2def) (length tri2vtx) (length vtx2dw) ⇒ badLength
-            ∷ not (namesBelow (verticesOf vtx2ini) tri2vtx) ⇒ badName
-            ∷ not (eqb triangle accepted) ⇒ triangle
-            ∷ badSumOf energyOf gradientOf ⇒ badAnswer
-            ∷ [])
+            listedNumber (badLengthOf (length vtx2ini) (length vtx2def) (length tri2vtx) (length vtx2dw)) (not (namesBelow (verticesOf vtx2ini) tri2vtx))
+            numbersOf (badSumOf energyOf gradientOf)
 
-        -- the place is 0 after 0, 1 and 2; the energy is +0 after every refusal
+        -- the energy is +0 after every refusal
         unfoldable pub skinOf : Skin
-        skinOf = record { number = numberOf; place = cond (leb numberOf badName) 0 (firstPlace numbersOf); w = cond (eqb numberOf accepted) energyOf zero }
+        skinOf = record { number = numberOf; place = listedPlace numberOf numbersOf; w = cond (eqb numberOf accepted) energyOf zero }
 
         -- what is left in the buffer: the gradient where nothing is refused, what was in it after 1 and 2, +0 throughout after any other refusal
         unfoldable pub bufferOf : List Float
