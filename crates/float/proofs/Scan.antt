@@ -1,6 +1,6 @@
 -- A loop that tests a list from the front, to its end, keeps this: what was seen so far and what is left from here pass exactly when the whole list does.
 use mathlib.Core.Path.{_≡_, refl, sym, _∙_}
-use mathlib.Core.Bool.{Bool, true, false, _&&_, false≢true, and-assoc, and-true}
+use mathlib.Core.Bool.{Bool, true, false, _&&_, _||_, false≢true, true≢false, and-assoc, and-true}
 use mathlib.Core.List.{List, [], _∷_}
 use mathlib.Core.Logic.{_↔_}
 use Prim.Native.Nat.{ℕ, zero, suc, _+_, _≤_, _<_}
@@ -15,6 +15,11 @@ use Rattle.float.specs.Lists.{every}
 pub both : (a b : Bool) → a && b ≡ true → (a ≡ true) × (b ≡ true)
 both true b e = (refl, e)
 both false b e = absurd (false≢true e)
+
+-- and a test of one or the other fails where both do
+pub neither : (a b : Bool) → a || b ≡ false → (a ≡ false) × (b ≡ false)
+neither true b e = absurd (true≢false e)
+neither false b e = (refl, e)
 
 module _ {A : Type 0} (p : A → Bool) where
   every-cons : (x : A) (xs : List A) → every p (x ∷ xs) ≡ (p x && every p xs)

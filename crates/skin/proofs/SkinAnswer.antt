@@ -1,7 +1,7 @@
 -- What `wdw` answers, in the request's words: one answer fits; each number is given, and for which place, exactly where its test holds and nothing before it is refused; and
 -- what the energy and the buffer are after each.
 use mathlib.Core.Path.{_≡_, refl}
-use mathlib.Core.Bool.{Bool, true, false, not, cond, _&&_}
+use mathlib.Core.Bool.{Bool, true, false, not, cond, _||_}
 use mathlib.Core.List.{List}
 use Prim.Native.Nat.{ℕ, _+_, _*_, _/_, _%_, _≤_, _<_}
 use native.Mathlib.Omega.{arith}
@@ -12,7 +12,7 @@ use borrow.Author.Tests.{eqb-true, ne-eqb, ltb-true, ltb-false, le-leb, lt-leb, 
 use Rattle.float.specs.Lists.{cleared}
 use Rattle.float.specs.Ops.{Ops, ops}
 use Rattle.float.proofs.Fold.{map-length, map-at}
-use Rattle.float.proofs.Scan.{both}
+use Rattle.float.proofs.Scan.{neither}
 use Rattle.float.proofs.Unique.{only}
 use Rattle.refusal.specs.Refusal.{accepted, badName}
 use Rattle.refusal.specs.Panel as panel
@@ -105,8 +105,8 @@ module _ (f : Format) (vtx2ini vtx2def : List Float) (tri2vtx : List ℕ) (lambd
 pub sized : (ini def names places : ℕ) → badLengthOf ini def names places ≡ false → (names % 3 ≡ 0) × (ini % 3 ≡ 0) × (ini ≡ places) × (def ≡ places)
 unfolding badLengthOf
 sized ini def names places e =
-    let l = both (not (panel.badLengthOf (ini / 3) names places) && eqb ini places) _ (not-false _ e) in
-    let k = both (not (panel.badLengthOf (ini / 3) names places)) _ (l .0) in
-    let known = panels.sized (ini / 3) names places (not-true _ (k .0)) in
-    let i = eqb-true ini places (k .1) in
-    (known .0, omega (arith, known .1), i, eqb-true def places (l .1))
+    let l = neither (panel.badLengthOf (ini / 3) names places || not (eqb ini places)) _ e in
+    let k = neither (panel.badLengthOf (ini / 3) names places) _ (l .0) in
+    let known = panels.sized (ini / 3) names places (k .0) in
+    let i = eqb-true ini places (not-false _ (k .1)) in
+    (known .0, omega (arith, known .1), i, eqb-true def places (not-false _ (l .1)))

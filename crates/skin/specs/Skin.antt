@@ -1,6 +1,6 @@
 -- What `wdw` answers (request 1/12): the single kernel's answers, added in the list's order from +0; or the first thing in order that is refused, and where.
 use mathlib.Core.Path.{_≡_}
-use mathlib.Core.Bool.{Bool, cond, not, _&&_}
+use mathlib.Core.Bool.{Bool, cond, not, _&&_, _||_}
 use mathlib.Core.List.{List, [], _∷_}
 use Prim.Native.Nat.{ℕ, _+_, _*_, _/_}
 use lib.Dec.{eqb, leb}
@@ -33,7 +33,7 @@ verticesOf vtx2ini = length vtx2ini / 3
 
 -- a limit is passed; or the two point lists and the gradient are not of one length; or 3 does not divide it
 unfoldable pub badLengthOf : (ini def names places : ℕ) → Bool
-badLengthOf ini def names places = not (not (panel.badLengthOf (ini / 3) names places) && eqb ini places && eqb def places)
+badLengthOf ini def names places = panel.badLengthOf (ini / 3) names places || not (eqb ini places) || not (eqb def places)
 
 -- a sum overflowed
 unfoldable pub badSumOf : (w : Float) (vtx2dw : List Float) → Bool

@@ -26,7 +26,7 @@ pub struct Skin {
 fn bad_length(ini: usize, def: usize, names: usize, places: usize) -> bool
     ensures { λ r. ⌜ r ≡ badLengthOf ini def names places ⌝ }
 {
-    !(!refusal::bad_length(ini / 3, names, places) & (ini == places) & (def == places))
+    refusal::bad_length(ini / 3, names, places) | (ini != places) | (def != places)
 }
 
 fn bad_sum(w: f64, vtx2dw: &[f64]) -> bool

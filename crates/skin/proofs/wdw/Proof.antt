@@ -94,7 +94,7 @@ wdw-spec = tie.close (tie.spec
     (λ c κs. tt)
     (λ c κs. tt)
     (λ c κs. tt)
-    (λ c κs. tt)
+    (λ again κs. tt)
     (λ c κs. tt)
     (λ c. search needs)
     (λ c. let again = c .before .before .before in let t3 = again .before .before in let second = t3 .before in let first = second .before .before in let sum = first .before in
