@@ -1,4 +1,4 @@
--- The number and the place of a call over a list (request 1/12): of its answers, one after the other, the first that is refused gives its number and its place.
+-- The number and the place of a call over a list (01-scope 2.5): of its answers, one after the other, the first that is refused gives its number and its place.
 use mathlib.Core.Path.{_≡_}
 use mathlib.Core.Bool.{Bool, true, false, not, cond}
 use mathlib.Core.List.{List, [], _∷_}

@@ -1,4 +1,4 @@
--- What `wdw` answers, in the request's words: one answer fits; each number is given, and for which place, exactly where its test holds and nothing before it is refused; and
+-- What `wdw` answers, in the scope's words: one answer fits; each number is given, and for which place, exactly where its test holds and nothing before it is refused; and
 -- what the energy and the buffer are after each.
 use mathlib.Core.Path.{_≡_, refl}
 use mathlib.Core.Bool.{Bool, true, false, not, cond, _||_}

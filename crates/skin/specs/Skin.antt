@@ -1,4 +1,4 @@
--- What `wdw` answers (request 1/12): the single kernel's answers, added in the list's order from +0; or the first thing in order that is refused, and where.
+-- What `wdw` answers (01-scope 5.8, 2.5): the single kernel's answers, added in the list's order from +0; or the first thing in order that is refused, and where.
 use mathlib.Core.Path.{_≡_}
 use mathlib.Core.Bool.{Bool, cond, not, _&&_, _||_}
 use mathlib.Core.List.{List, [], _∷_}
