@@ -2,26 +2,34 @@
 
 use crate::record::{self, numbers_of, Malformed, Record, Records};
 use crate::root::{root, NAN_WORD};
-use crate::{helpers, kernels, masses};
+use crate::{helpers, kernels, masses, skin};
 use std::fmt::Write as _;
 use std::io::{self, Write};
 
-/// A refusal number, 0 for none, and the values or the buffer on return.
+/// A refusal number, 0 for none; for a skin the place that goes with it; and
+/// the values or the buffer on return.
 #[derive(Clone, Debug)]
 pub struct Answer {
     pub number: u64,
+    pub place: Option<u64>,
     pub values: Vec<f64>,
 }
 
 impl Answer {
-    pub fn accepted(values: Vec<f64>) -> Answer {
-        Answer { number: 0, values }
+    pub fn of(number: u64, values: Vec<f64>) -> Answer {
+        let place = None;
+        Answer {
+            number,
+            place,
+            values,
+        }
     }
 
     pub fn line(&self) -> String {
         let mut line = format!("{:016x}", self.number);
-        for value in &self.values {
-            write!(line, " {:016x}", word(*value)).unwrap();
+        let values = self.values.iter().map(|value| word(*value));
+        for word in self.place.into_iter().chain(values) {
+            write!(line, " {word:016x}").unwrap();
         }
         line
     }
@@ -38,12 +46,13 @@ pub fn word(x: f64) -> u64 {
 
 pub fn answer(record: &Record) -> Answer {
     match record.kind {
-        record::ROOT => Answer::accepted(vec![root(f64::from_bits(record.words[0]))]),
-        record::HELPER => Answer::accepted(helpers::values(
-            record.words[0],
-            &numbers_of(&record.words[1..]),
-        )),
+        record::ROOT => Answer::of(0, vec![root(f64::from_bits(record.words[0]))]),
+        record::HELPER => Answer::of(
+            0,
+            helpers::values(record.words[0], &numbers_of(&record.words[1..])),
+        ),
         record::MASSES => masses::answer(&record.words),
+        record::SKIN => skin::answer(&record.words),
         kind => kernels::answer(kind, &numbers_of(&record.words)),
     }
 }

@@ -41,7 +41,7 @@ fn judge(
     } else {
         vec![0.0; values.len()]
     };
-    Answer { number, values }
+    Answer::of(number, values)
 }
 
 fn trace(inputs: &[f64], traced: impl Fn(&[Traced]) -> Vec<Traced>) -> (Vec<f64>, Vec<f64>) {

@@ -16,6 +16,9 @@ mod record;
 mod root;
 mod roots;
 mod sheet;
+mod skin;
+mod skin_cases;
+mod skin_samples;
 #[cfg(test)]
 mod tests;
 mod traced;
@@ -34,6 +37,7 @@ const USAGE: &str = "usage:
                                       own test inputs, 1 on 2, 9 for calls of nothing
   oracle panel TRIANGLES COUNT        a run of COUNT calls of masses on a grid of so many triangles
   oracle panel TRIANGLES COUNT nan    the same with a vertex that is not named and has no finite number
+  oracle skin TRIANGLES COUNT         a run of COUNT calls of a whole skin on a grid of so many triangles
   oracle limits                       the lines of `limits`
   oracle sheet                        the lines of `panel`
 KINDS is a list such as 1,9 or the word all.";
@@ -83,6 +87,10 @@ fn run(arguments: &[&str]) -> Result<ExitCode, String> {
             let run = mass_cases::run_of(parsed(triangles)?, parsed(count)?, &[f64::NAN; 2]);
             write_records(vec![run], &[])
         }
+        ["skin", triangles, count] => {
+            let run = skin_cases::run_of(parsed(triangles)?, parsed(count)?);
+            write_records(vec![run], &[])
+        }
         ["limits"] => {
             print!("{}", limits::lines());
             Ok(ExitCode::SUCCESS)
@@ -117,6 +125,7 @@ fn sample(kind: u64) -> Vec<Record> {
         record::ROOT => roots::sample(),
         record::HELPER => helper_cases::sample(),
         record::MASSES => mass_cases::sample(),
+        record::SKIN => skin_samples::sample(),
         kernel => kernel_samples::sample(kernel),
     }
 }
@@ -126,6 +135,7 @@ fn generated(kind: u64, random: &mut Random) -> Record {
         record::ROOT => roots::generated(random),
         record::HELPER => helper_cases::generated(random),
         record::MASSES => mass_cases::generated(random),
+        record::SKIN => skin_cases::generated(random),
         kernel => kernel_cases::generated(kernel, random),
     }
 }

@@ -6,20 +6,23 @@ use crate::record::{words_of, Record, MASSES};
 
 const DRAWN: usize = 420;
 
-/// How many vertices and triangles a drawn panel has, less than these.
+/// Vertices in a row of a grid.
+const ROW: u64 = 256;
+
+/// How many vertices and triangles a drawn panel or skin has, less than these.
 #[derive(Clone, Copy)]
-struct Size {
-    vertices: u64,
-    triangles: u64,
+pub struct Size {
+    pub vertices: u64,
+    pub triangles: u64,
 }
 
-const SMALL: Size = Size {
+pub const SMALL: Size = Size {
     vertices: 9,
     triangles: 7,
 };
 
 /// As large as a record may be: lists of up to 4,096 entries.
-const LARGE: Size = Size {
+pub const LARGE: Size = Size {
     vertices: 1366,
     triangles: 1366,
 };
@@ -127,12 +130,12 @@ fn spoil(random: &mut Random, panel: &mut Panel) {
     }
 }
 
-fn place_in(random: &mut Random, length: usize) -> Option<usize> {
+pub fn place_in(random: &mut Random, length: usize) -> Option<usize> {
     (length > 0).then(|| random.below(length as u64) as usize)
 }
 
 /// Names of no vertex; twice or three times some of them wraps to a vertex's place.
-fn far_names(vertices: u64) -> [u64; 9] {
+pub fn far_names(vertices: u64) -> [u64; 9] {
     [
         vertices,
         vertices + 1,
@@ -146,15 +149,15 @@ fn far_names(vertices: u64) -> [u64; 9] {
     ]
 }
 
-/// A run of `count` calls for `speed`, on the first `triangles` triangles of a
-/// grid with 256 vertices a row (one at a row's end joins two rows), after
-/// vertices that are not named.
-pub fn run_of(triangles: u64, count: u64, unnamed: &[f64]) -> Record {
-    const ROW: u64 = 256;
+/// The points of a grid that has `triangles` triangles, 256 to a row.
+pub fn grid(triangles: u64) -> impl Iterator<Item = [f64; 2]> {
     let vertices = triangles / 2 + ROW + 1;
-    let grid = (0..vertices).flat_map(|v| [(v % ROW) as f64 * 0.7, (v / ROW) as f64 * 1.1]);
-    let coordinates: Vec<f64> = unnamed.iter().copied().chain(grid).collect();
-    let first = unnamed.len() as u64 / 2;
+    (0..vertices).map(|v| [(v % ROW) as f64 * 0.7, (v / ROW) as f64 * 1.1])
+}
+
+/// Its triangles, the grid's vertices counted from `first`; one at a row's end
+/// joins two rows.
+pub fn grid_names(triangles: u64, first: u64) -> Vec<u64> {
     let corners = |triangle: u64| {
         let v = first + triangle / 2;
         match triangle % 2 {
@@ -162,7 +165,15 @@ pub fn run_of(triangles: u64, count: u64, unnamed: &[f64]) -> Record {
             _ => [v + 1, v + ROW + 1, v + ROW],
         }
     };
-    let names: Vec<u64> = (0..triangles).flat_map(corners).collect();
+    (0..triangles).flat_map(corners).collect()
+}
+
+/// A run of `count` calls for `speed`, on a grid after vertices that are not
+/// named.
+pub fn run_of(triangles: u64, count: u64, unnamed: &[f64]) -> Record {
+    let grid = grid(triangles).flatten();
+    let coordinates: Vec<f64> = unnamed.iter().copied().chain(grid).collect();
+    let names = grid_names(triangles, unnamed.len() as u64 / 2);
     let words = [
         vec![count, coordinates.len() as u64, names.len() as u64],
         words_of(&[0.3, 1.7]),

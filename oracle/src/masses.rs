@@ -7,8 +7,8 @@ use crate::record::{numbers_of, MASSES_HEAD};
 use crate::traced::{self, Traced};
 use del_fem_cpu::mitc_tri3;
 
-const MOST_VERTICES: usize = 65_536;
-const MOST_TRIANGLES: usize = 131_072;
+pub const MOST_VERTICES: usize = 65_536;
+pub const MOST_TRIANGLES: usize = 131_072;
 
 /// The words of a masses record, taken apart.
 pub fn answer(words: &[u64]) -> Answer {
@@ -27,20 +27,14 @@ pub fn answer(words: &[u64]) -> Answer {
 
 pub fn masses(names: &[u64], xy: &[f64], thick: f64, rho: f64, buffer: &[f64]) -> Answer {
     if let Some(number) = refused_before(names, xy, thick, rho, buffer.len()) {
-        return Answer {
-            number,
-            values: buffer.to_vec(),
-        };
+        return Answer::of(number, buffer.to_vec());
     }
     let tri2vtx: Vec<usize> = names.iter().map(|name| *name as usize).collect();
     let values = original(&tri2vtx, xy, thick, rho, buffer);
     if finite(&values) {
-        Answer::accepted(values)
+        Answer::of(0, values)
     } else {
-        Answer {
-            number: 5,
-            values: vec![0.0; buffer.len()],
-        }
+        Answer::of(5, vec![0.0; buffer.len()])
     }
 }
 

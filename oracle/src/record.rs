@@ -8,15 +8,19 @@ pub const STRAIN: u64 = 3;
 pub const STVK: u64 = 4;
 pub const PLATE: u64 = 5;
 pub const MASSES: u64 = 6;
+pub const SKIN: u64 = 7;
 pub const HELPER: u64 = 9;
 
-pub const KINDS: [u64; 7] = [ROOT, BENDING, STRAIN, STVK, PLATE, MASSES, HELPER];
+pub const KINDS: [u64; 8] = [ROOT, BENDING, STRAIN, STVK, PLATE, MASSES, SKIN, HELPER];
 
 /// Input words of the helpers, the first entry for helper 1.
 pub const HELPER_INPUTS: [usize; 11] = [6, 6, 6, 4, 3, 3, 6, 9, 9, 6, 9];
 
 /// Words of a masses record before its lists: N, T, B, thickness, density.
 pub const MASSES_HEAD: usize = 5;
+
+/// Words of a skin record before its lists: N, M, T, B, lambda, myu.
+pub const SKIN_HEAD: usize = 6;
 
 const LONGEST_LIST: u64 = 4096;
 
@@ -90,16 +94,18 @@ impl<'a> Records<'a> {
             STRAIN => self.words(15),
             STVK => self.words(20),
             PLATE => self.words(18),
-            MASSES => self.masses(),
+            MASSES => self.lists(MASSES_HEAD),
+            SKIN => self.lists(SKIN_HEAD),
             HELPER => self.helper(),
             _ => None,
         }?;
         Some(Record { kind, words })
     }
 
-    fn masses(&mut self) -> Option<Vec<u64>> {
-        let head = self.words(MASSES_HEAD)?;
-        let lengths = &head[..3];
+    /// A head of the lists' lengths and two numbers, then the lists.
+    fn lists(&mut self, head: usize) -> Option<Vec<u64>> {
+        let head = self.words(head)?;
+        let lengths = &head[..head.len() - 2];
         if lengths.iter().any(|length| *length > LONGEST_LIST) {
             return None;
         }

@@ -5,7 +5,7 @@ use crate::answer::{self, answer};
 use crate::helpers::points;
 use crate::random::Random;
 use crate::record::{self, numbers_of, Record, Records, BENDING, KINDS, PLATE, STRAIN, STVK};
-use crate::{compare, generated, kernels, masses, sample};
+use crate::{compare, generated, kernels, masses, sample, skin};
 use del_geo_core::{curve_linear_coords, edge, tri3, vec3};
 
 const KERNELS: [u64; 4] = [BENDING, STRAIN, STVK, PLATE];
@@ -69,6 +69,66 @@ fn limits_of_masses() {
     assert_eq!(number(3, 131_074, 196_611), 1);
     assert_eq!(number(393_216, 6, 9), 0);
     assert_eq!(number(393_219, 6, 9), 1);
+}
+
+const REST: [f64; 12] = [0.0, 0.0, 0.0, 1.0, 0.0, 0.0, 0.0, 1.0, 0.0, 1.0, 1.0, 0.0];
+const PULLED: [f64; 12] = [0.0, 0.0, 0.0, 2.0, 0.0, 0.0, 0.0, 1.0, 0.0, 2.0, 1.0, 0.0];
+
+/// Number, place, energy, and the gradient's x at each vertex.
+fn pulled_skin(names: &[u64], lame: [f64; 2]) -> (u64, u64, f64, Vec<f64>) {
+    let answer = skin::skin(&REST, &PULLED, names, lame, &[7.0; 12]);
+    let along = answer.values[1..].iter().copied().step_by(3).collect();
+    (
+        answer.number,
+        answer.place.unwrap(),
+        answer.values[0],
+        along,
+    )
+}
+
+/// The scope's example of one triangle, and the same triangle in a skin.
+#[test]
+fn examples_of_skins() {
+    let lame = [0.0, 1.0];
+    let single = (0, 0, 1.125, vec![-3.0, 3.0, 0.0, 0.0]);
+    assert_eq!(pulled_skin(&[0, 1, 2], lame), single);
+    let both = (0, 0, 2.25, vec![-3.0, 3.0, -3.0, 3.0]);
+    assert_eq!(pulled_skin(&[0, 1, 2, 1, 3, 2], lame), both);
+    let zeros = vec![0.0; 4];
+    assert_eq!(pulled_skin(&[], [f64::NAN; 2]), (0, 0, 0.0, zeros.clone()));
+    let untouched = vec![7.0; 4];
+    assert_eq!(
+        pulled_skin(&[0, 1, 2, 3], lame),
+        (1, 0, 0.0, untouched.clone())
+    );
+    assert_eq!(pulled_skin(&[0, 1, 4], lame), (2, 0, 0.0, untouched));
+    assert_eq!(
+        pulled_skin(&[0, 1, 2], [f64::NAN, 1.0]),
+        (3, 0, 0.0, zeros.clone())
+    );
+    assert_eq!(
+        pulled_skin(&[0, 1, 2, 1, 3, 3], lame),
+        (4, 1, 0.0, zeros.clone())
+    );
+    let thrice = [0, 1, 2, 0, 1, 2, 0, 1, 2];
+    assert_eq!(pulled_skin(&thrice, [0.0, f64::MAX / 16.0]).0, 0);
+    assert_eq!(
+        pulled_skin(&[thrice, thrice].concat(), [0.0, f64::MAX / 16.0]),
+        (5, 6, 0.0, zeros)
+    );
+}
+
+#[test]
+fn limits_of_skins() {
+    let number = |names: usize, numbers: usize| {
+        let points: Vec<f64> = (0..numbers).map(|i| (i * i) as f64).collect();
+        let names: Vec<u64> = (0..names as u64).map(|i| i % 3).collect();
+        skin::skin(&points, &points, &names, [1.0, 1.0], &vec![0.0; numbers]).number
+    };
+    assert_eq!(number(3, 196_608), 0);
+    assert_eq!(number(3, 196_611), 1);
+    assert_eq!(number(393_216, 9), 0);
+    assert_eq!(number(393_219, 9), 1);
 }
 
 #[test]
@@ -332,6 +392,59 @@ fn the_sample_gives_every_refusal() {
     assert!(numbers.len() >= 600);
     assert!(half_are_accepted(&numbers));
     assert!([0, 1, 2, 3, 5].iter().all(|n| numbers.contains(n)));
+    let numbers: Vec<u64> = sample(record::SKIN)
+        .iter()
+        .map(|r| answer(r).number)
+        .collect();
+    assert!(numbers.len() >= 600);
+    assert!(half_are_accepted(&numbers));
+    assert!((0..6).all(|n| numbers.contains(&n)));
+}
+
+/// Whether the sums of a record's triangles are finite: the energy's, and the gradient's.
+fn finite_sums(record: &Record) -> (bool, bool) {
+    let count = |i: usize| record.words[i] as usize;
+    let lists = &record.words[record::SKIN_HEAD..];
+    let (ini, def) = (
+        numbers_of(&lists[..count(0)]),
+        numbers_of(&lists[count(0)..][..count(1)]),
+    );
+    let lame = [record.words[4], record.words[5]].map(f64::from_bits);
+    let mut w = 0.0;
+    let mut dw = vec![0.0; ini.len()];
+    for names in lists[count(0) + count(1)..][..count(2)].chunks(3) {
+        let values = skin::single(&ini, &def, names, lame).values;
+        w += values[0];
+        for (i, x) in values[1..10].iter().enumerate() {
+            dw[names[i / 3] as usize * 3 + i % 3] += x;
+        }
+    }
+    (f64::is_finite(w), kernels::finite(&dw))
+}
+
+/// A skin's places: of every refusal past the first triangle, and with only a sum
+/// beyond the range, the energy's or the gradient's.
+#[test]
+fn the_sample_gives_places() {
+    let records = sample(record::SKIN);
+    let answers: Vec<_> = records.iter().map(|r| (r, answer(r))).collect();
+    let triangles = |record: &Record| record.words[2] / 3;
+    for number in 3..6 {
+        let middle = |(record, answer): &(&Record, answer::Answer)| {
+            let place = answer.place.unwrap();
+            answer.number == number && 0 < place && place + 1 < triangles(record)
+        };
+        assert!(answers.iter().any(middle), "number {number}");
+    }
+    let sums: Vec<_> = answers
+        .iter()
+        .filter(|(record, answer)| answer.number == 5 && answer.place == Some(triangles(record)))
+        .map(|(record, _)| finite_sums(record))
+        .collect();
+    for finite in [(false, true), (true, false)] {
+        assert!(sums.contains(&finite), "energy, gradient: {finite:?}");
+    }
+    assert!(!sums.contains(&(true, true)));
 }
 
 #[test]
@@ -361,7 +474,7 @@ fn malformed_records_end_the_answers() {
     assert_eq!(lines(&[1, four, 1, four], 1), format!("{good}?\n"));
     assert_eq!(lines(&[1, four, 1], 0), format!("{good}?\n"));
     assert_eq!(lines(&[1, four, 1], 3), format!("{good}?\n"));
-    assert_eq!(lines(&[7, four, 1, four], 0), "?\n");
+    assert_eq!(lines(&[8, four, 1, four], 0), "?\n");
     assert_eq!(lines(&[0, four], 0), "?\n");
     for helper in [0, 12, u64::MAX] {
         assert_eq!(
@@ -369,13 +482,20 @@ fn malformed_records_end_the_answers() {
             "?\n"
         );
     }
-    for place in 1..4 {
-        let mut masses = vec![0; 5000];
-        masses[0] = 6;
-        masses[place] = 4097;
-        assert_eq!(lines(&masses, 0), "?\n");
+    for (kind, lists) in [(6, 3), (7, 4)] {
+        for place in 1..=lists {
+            let mut words = vec![0; 5000];
+            words[0] = kind;
+            words[place] = 4097;
+            assert_eq!(lines(&words, 0), "?\n");
+        }
     }
-    assert_eq!(lines(&[6, 0, 0, 0, four, four], 0), "0000000000000000\n");
+    let zero = "0000000000000000";
+    assert_eq!(lines(&[6, 0, 0, 0, four, four], 0), format!("{zero}\n"));
+    assert_eq!(
+        lines(&[7, 0, 0, 0, 0, four, four], 0),
+        format!("{zero} {zero} {zero}\n")
+    );
 }
 
 #[test]
