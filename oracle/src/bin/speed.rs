@@ -5,6 +5,7 @@ use del_fem_cpu::{mitc_tri3, quadratic_bending, stvk_tri3};
 use std::io::Read;
 
 const MASSES: u64 = 6;
+const SKIN: u64 = 7;
 
 /// By how much every number moves from one call to the next.
 const STEP: f64 = 1.0 / 1048576.0;
@@ -78,6 +79,53 @@ fn masses(count: u64, tri2vtx: &[usize], vtx2xy: &[f64], thick: f64, rho: f64) -
     sum
 }
 
+/// As one adds up a skin over the original: the energy, and the gradient into the buffer.
+fn skin(
+    vtx2ini: &[f64],
+    vtx2def: &[f64],
+    tri2vtx: &[usize],
+    lambda: f64,
+    myu: f64,
+    vtx2dw: &mut [f64],
+) -> f64 {
+    vtx2dw.fill(0.0);
+    let mut sum = 0.0;
+    for names in tri2vtx.chunks(3) {
+        let p0 = std::array::from_fn(|i| point(vtx2ini, names[i]));
+        let p1 = std::array::from_fn(|i| point(vtx2def, names[i]));
+        let (w, dw, _) = stvk_tri3::wdwddw_(p0, p1, lambda, myu);
+        sum += w;
+        for (name, part) in names.iter().zip(dw) {
+            vtx2dw[name * 3] += part[0];
+            vtx2dw[name * 3 + 1] += part[1];
+            vtx2dw[name * 3 + 2] += part[2];
+        }
+    }
+    sum
+}
+
+fn point(points: &[f64], name: usize) -> [f64; 3] {
+    [points[name * 3], points[name * 3 + 1], points[name * 3 + 2]]
+}
+
+/// Calls on a skin, lambda moved from one to the next.
+fn skins(count: u64, words: &mut impl Iterator<Item = u64>) -> f64 {
+    let (numbers, names) = (next(words), next(words));
+    let [lambda, myu] = [next(words), next(words)].map(f64::from_bits);
+    let vtx2ini = list(words, numbers, f64::from_bits);
+    let vtx2def = list(words, numbers, f64::from_bits);
+    let tri2vtx = list(words, names, |word| word as usize);
+    let mut vtx2dw = vec![0.0; vtx2ini.len()];
+    let mut s = 0.0;
+    let mut sum = 0.0;
+    for _ in 0..count {
+        sum += skin(&vtx2ini, &vtx2def, &tri2vtx, lambda + s, myu, &mut vtx2dw);
+        sum += vtx2dw.last().copied().unwrap_or(0.0);
+        s += STEP;
+    }
+    sum
+}
+
 fn kernel(kind: u64, count: u64, words: &mut impl Iterator<Item = u64>) -> f64 {
     let call = match kind {
         1 => root,
@@ -87,17 +135,24 @@ fn kernel(kind: u64, count: u64, words: &mut impl Iterator<Item = u64>) -> f64 {
         5 => plate,
         _ => nothing,
     };
-    let x = std::array::from_fn(|_| f64::from_bits(words.next().expect("a number")));
+    let x = std::array::from_fn(|_| f64::from_bits(next(words)));
     sum(call, count, x)
 }
 
 fn panel(count: u64, words: &mut impl Iterator<Item = u64>) -> f64 {
-    let mut next = || words.next().expect("a word");
-    let (coordinates, names) = (next(), next());
-    let [thick, rho] = [next(), next()].map(f64::from_bits);
-    let vtx2xy: Vec<f64> = (0..coordinates).map(|_| f64::from_bits(next())).collect();
-    let tri2vtx: Vec<usize> = (0..names).map(|_| next() as usize).collect();
+    let (coordinates, names) = (next(words), next(words));
+    let [thick, rho] = [next(words), next(words)].map(f64::from_bits);
+    let vtx2xy = list(words, coordinates, f64::from_bits);
+    let tri2vtx = list(words, names, |word| word as usize);
     masses(count, &tri2vtx, &vtx2xy, thick, rho)
+}
+
+fn next(words: &mut impl Iterator<Item = u64>) -> u64 {
+    words.next().expect("a word")
+}
+
+fn list<T>(words: &mut impl Iterator<Item = u64>, count: u64, of: fn(u64) -> T) -> Vec<T> {
+    (0..count).map(|_| of(next(words))).collect()
 }
 
 fn main() {
@@ -110,10 +165,10 @@ fn main() {
         .map(|b| u64::from_be_bytes(b.try_into().expect("eight bytes")));
     while let Some(kind) = words.next() {
         let count = words.next().expect("how many calls");
-        let sum = if kind == MASSES {
-            panel(count, &mut words)
-        } else {
-            kernel(kind, count, &mut words)
+        let sum = match kind {
+            MASSES => panel(count, &mut words),
+            SKIN => skins(count, &mut words),
+            _ => kernel(kind, count, &mut words),
         };
         println!("{:016x}", sum.to_bits());
     }
