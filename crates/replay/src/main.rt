@@ -5,6 +5,7 @@ mod input;
 mod kernels;
 mod masses;
 mod output;
+mod skins;
 
 use input::Next;
 
@@ -18,6 +19,8 @@ enum Outcome {
 const ROOT: u64 = 1;
 
 const MASSES: u64 = 6;
+
+const SKIN: u64 = 7;
 
 const HELPER: u64 = 9;
 
@@ -63,8 +66,9 @@ fn replay_kernel(kind: u64) -> Outcome {
     Outcome::Unreadable
 }
 
-fn replay_masses() -> Outcome {
-    if masses::is_answered() {
+// Of a record of lists.
+fn of_lists(answered: bool) -> Outcome {
+    if answered {
         Outcome::Answered
     } else {
         Outcome::Unreadable
@@ -79,7 +83,9 @@ fn replay_one() -> Outcome {
             } else if kind == HELPER {
                 replay_helper()
             } else if kind == MASSES {
-                replay_masses()
+                of_lists(masses::is_answered())
+            } else if kind == SKIN {
+                of_lists(skins::is_answered())
             } else if kernels::is_known(kind) {
                 replay_kernel(kind)
             } else {
