@@ -1,12 +1,16 @@
 // Calls a routine many times, so that the instructions of one call can be counted (docs/SPEED.md). Standard input holds runs of big-endian 64-bit words: the routine's
 // number of docs/REPLAY.md (any other: nothing is called), how many calls, and 24 numbers by their bits, its inputs first; for masses in place of these the lengths of the
-// two lists, thickness, density, the coordinates and the names. A line for each run: the bits of the sum of what the calls gave.
+// two lists, thickness, density, the coordinates and the names; for a skin how many numbers each of its point lists has, how many names, lambda, myu, the points at rest, those
+// deformed and the names. A line for each run: the bits of the sum of what the calls gave.
 mod input;
 mod masses;
+mod skins;
 
 use libc::STDOUT_FILENO;
 
 const MASSES: u64 = 6;
+
+const SKIN: u64 = 7;
 
 // By how much every number moves from one call to the next, so that no call can use what another computed: 2^-20.
 pub(crate) const STEP: f64 = 0.00000095367431640625;
@@ -108,6 +112,8 @@ fn run() -> bool {
     let count = input::next_word();
     let sum = if kind == MASSES {
         masses::sum(count)
+    } else if kind == SKIN {
+        skins::sum(count)
     } else {
         sum(kind, count, input::next_numbers())
     };

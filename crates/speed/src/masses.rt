@@ -2,7 +2,7 @@
 use crate::STEP;
 use crate::input;
 
-fn last(xs: &[f64]) -> f64 {
+pub(crate) fn last(xs: &[f64]) -> f64 {
     if 0 < xs.len() { xs[xs.len() - 1] } else { 0.0 }
 }
 
