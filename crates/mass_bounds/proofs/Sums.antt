@@ -1,14 +1,14 @@
 -- The masses of all vertices together (01-scope 6.3): each triangle gives its share three times, once to each of its names, so a sum over vertices is three times one over triangles.
 use mathlib.Core.Path.{_≡_, refl, ap, _∙_}
 use mathlib.Core.Bool.{Bool, true, false, cond}
-use mathlib.Core.List.{List, [], _∷_, _++_}
+use mathlib.Core.List.{List, [], _∷_, _++_, append-assoc, append-nil}
 use Prim.Native.Nat.{ℕ, _+_, _*_}
 use native.Mathlib.Nat.{add-zero}
 use native.Mathlib.Omega.{arith}
 use lib.Dec.{eqb, ltb}
 use lib.Ieee.{Float, Format}
 use borrow.Author.Tests.{ltb-true}
-use Rattle.float.specs.Lists.{_!_, every, foldThrees}
+use Rattle.float.specs.Lists.{_!_, every, foldThrees, mapThrees}
 use Rattle.float.proofs.Scan.{both}
 use Rattle.refusal.specs.Panel.{namesBelow}
 use Rattle.rounding.specs.Exact.{Num, Equal, _⊠_, scale, sizeOf, value}
@@ -61,16 +61,16 @@ module _ (g : Tri2 → ℕ) (vtx2xy : List Float) where
         )
 
     turns : (l : List ℕ) (s : ℕ → List Tri2) (t : List Tri2) → namesBelow n l ≡ true → Thrice s t
-        → Thrice (λ v. foldThrees (λ l i0 i1 i2. l ++ namedBy (λ c. cornersAt vtx2xy) v i0 i1 i2) (s v) l) (foldThrees (λ l i0 i1 i2. l ++ (cornersAt vtx2xy i0 i1 i2 ∷ [])) t l)
-    unfolding foldThrees every
+        → Thrice (λ v. foldThrees (λ l i0 i1 i2. l ++ namedBy (λ c. cornersAt vtx2xy) v i0 i1 i2) (s v) l) (t ++ mapThrees (cornersAt vtx2xy) l)
+    unfolding foldThrees mapThrees every
     turns (i0 ∷ i1 ∷ i2 ∷ l) s t e k =
         let e0 = both (ltb i0 n) _ e in
         let e1 = both (ltb i1 n) _ (e0 .1) in
         let e2 = both (ltb i2 n) _ (e1 .1) in
-        turns l _ _ (e2 .1) (turn s t i0 i1 i2 (e0 .0) (e1 .0) (e2 .0) k)
-    turns (i0 ∷ i1 ∷ []) s t e k = k
-    turns (i0 ∷ []) s t e k = k
-    turns [] s t e k = k
+        rw (append-assoc t (cornersAt vtx2xy i0 i1 i2 ∷ []) _) at (turns l _ _ (e2 .1) (turn s t i0 i1 i2 (e0 .0) (e1 .0) (e2 .0) k))
+    turns (i0 ∷ i1 ∷ []) s t e k = rw (append-nil t) k
+    turns (i0 ∷ []) s t e k = rw (append-nil t) k
+    turns [] s t e k = rw (append-nil t) k
 
 -- ---- THE theorems of 6.3
 module _ (f : Format) (tri2vtx : List ℕ) (vtx2xy : List Float) (thick rho : Float) (names : namesBelow (verticesOf vtx2xy) tri2vtx ≡ true) where

@@ -1,9 +1,9 @@
 -- Exact shares of mass (01-scope 6.1), from the coordinates. An exact number counts units of 2 ^ -low (`value`), a product of n of them units of 2 ^ -(n * low).
-use mathlib.Core.List.{List, [], _∷_, _++_}
+use mathlib.Core.List.{List}
 use Prim.Native.Nat.{ℕ, zero, suc, _*_, _^_}
 use lib.Ieee.{Float, Format}
 use lib.ListN.{length}
-use Rattle.float.specs.Lists.{foldThrees}
+use Rattle.float.specs.Lists.{mapThrees}
 use Rattle.rounding.specs.Exact.{Num, _⊟_, _⊠_, sizeOf, value}
 use Rattle.rounding.specs.Sums.{sumOf, exactSum}
 use Rattle.del_geo_core.specs.declared.tri2.Tri2.{Tri2}
@@ -13,7 +13,7 @@ use Rattle.mass_bounds.specs.Range.{unit}
 
 -- every triangle's corners, in the list's order
 unfoldable pub triangles : (tri2vtx : List ℕ) (vtx2xy : List Float) → List Tri2
-triangles tri2vtx vtx2xy = foldThrees (λ l i0 i1 i2. l ++ (cornersAt vtx2xy i0 i1 i2 ∷ [])) [] tri2vtx
+triangles tri2vtx vtx2xy = mapThrees (cornersAt vtx2xy) tri2vtx
 
 -- d: how often the list names vertex v
 abbrev pub namesOf : (tri2vtx : List ℕ) (vtx2xy : List Float) (v : ℕ) → ℕ
