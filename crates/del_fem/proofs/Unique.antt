@@ -1,11 +1,13 @@
 -- No second answer fits a statement of this crate: the number and the values are each equal to one thing. The roots' and the masses' statements are their crates' own,
--- and so are the laws that they have one answer.
-use mathlib.Core.Path.{_≡_}
+-- and so are the laws that they have one answer; the skin's law is its crate's, taken apart.
+use mathlib.Core.Path.{_≡_, ap}
 use mathlib.Core.List.{List}
 use Prim.Native.Nat.{ℕ}
 use lib.Ieee.{Float, Format}
 use Rattle.float.proofs.Unique.{only}
-use Rattle.del_fem.specs.Exports.{IsBendingExport, IsStrainExport, IsStvkExport, IsPlateExport}
+use Rattle.skin.specs.declared.Skin.{Skin}
+use Rattle.skin.proofs.SkinAnswer.{unique}
+use Rattle.del_fem.specs.Exports.{IsBendingExport, IsStrainExport, IsStvkExport, IsPlateExport, IsSkinExport}
 
 module _ {r q : ℕ} {v w : List Float} where
   same : {number : ℕ} {values : List Float} → (r ≡ number) × (v ≡ values) → (q ≡ number) × (w ≡ values) → (r ≡ q) × (v ≡ w)
@@ -23,3 +25,10 @@ module _ {r q : ℕ} {v w : List Float} where
 
     pub plate : (p u : List (List Float)) (thk lambda myu : Float) → IsPlateExport f p u thk lambda myu r v → IsPlateExport f p u thk lambda myu q w → (r ≡ q) × (v ≡ w)
     plate p u thk lambda myu = same
+
+    pub skin : (vtx2ini vtx2def : List Float) (tri2vtx : List ℕ) (lambda myu : Float) (before : List Float) {place spot : ℕ} {x y : Float}
+        → IsSkinExport f vtx2ini vtx2def tri2vtx lambda myu before r place x v → IsSkinExport f vtx2ini vtx2def tri2vtx lambda myu before q spot y w
+        → (r ≡ q) × (place ≡ spot) × (x ≡ y) × (v ≡ w)
+    skin vtx2ini vtx2def tri2vtx lambda myu before a b =
+        let one = unique f vtx2ini vtx2def tri2vtx lambda myu before a b in
+        (ap (λ (s : Skin). s .number) (one .0), ap (λ (s : Skin). s .place) (one .0), ap (λ (s : Skin). s .w) (one .0), one .1)

@@ -13,6 +13,7 @@ use Rattle.stvk_tri3.specs.Strain as strain
 use Rattle.stvk_tri3.specs.Stvk.{wdwddwOf}
 use Rattle.stvk_tri3.specs.declared.Strain.{Strain}
 use Rattle.mitc_tri3.specs.Plate.{wDwDdwPlateBendingOf}
+use Rattle.skin.specs.Skin.{IsSkin}
 
 abbrev pub GivesBending : Bending → (r : ℕ) (values : List Float) → Type 0
 GivesBending a r values = (r ≡ a .number) × (values ≡ a .w ++ a .dwdp)
@@ -39,3 +40,7 @@ module _ (f : Format) where
   -- THE statement of `mitc_tri3_w_dw_ddw_plate_bending` (01-scope 5.2)
   abbrev pub IsPlateExport : (p u : List (List Float)) (thk lambda myu : Float) (r : ℕ) (values : List Float) → Type 0
   IsPlateExport p u thk lambda myu = GivesEnergy (wDwDdwPlateBendingOf f (tri2.cornersOf p) (tri3.cornersOf u) thk lambda myu)
+
+  -- THE statement of `skin_wdw` (request 1/12): the number, the place and the energy are those of skin's own answer
+  abbrev pub IsSkinExport : (vtx2ini vtx2def : List Float) (tri2vtx : List ℕ) (lambda myu : Float) (before : List Float) (r place : ℕ) (w : Float) (after : List Float) → Type 0
+  IsSkinExport vtx2ini vtx2def tri2vtx lambda myu before r place w = IsSkin f vtx2ini vtx2def tri2vtx lambda myu before (record { number = r; place = place; w = w })

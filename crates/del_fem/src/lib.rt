@@ -6,7 +6,7 @@ ghost use lib.ListN.{length};
 ghost use lib.Seq.{paste};
 ghost use Rattle.root.specs.Root.{SquareRoot, SquareRootWord};
 ghost use Rattle.mitc_tri3.specs.Masses.{IsMasses};
-ghost use Rattle.del_fem.specs.Exports.{GivesBending, GivesStrain, GivesEnergy, IsBendingExport, IsStrainExport, IsStvkExport, IsPlateExport};
+ghost use Rattle.del_fem.specs.Exports.{GivesBending, GivesStrain, GivesEnergy, IsBendingExport, IsStrainExport, IsStvkExport, IsPlateExport, IsSkinExport};
 use quadratic_bending::Bending;
 use refusal::Energy;
 use stvk_tri3::Strain;
@@ -130,4 +130,25 @@ pub extern "C" fn mitc_tri3_mass_lumped_plate_bending(
     ensures { λ r. ⌜ IsMasses binary64 (now («tri2vtx» .entry)) (now («vtx2xy» .entry)) thick rho (now («vtx2mass» .entry)) r (now («vtx2mass» .exit)) ⌝ }
 {
     mitc_tri3::mass_lumped_plate_bending(tri2vtx, vtx2xy, thick, rho, vtx2mass)
+}
+
+// The energy of a whole skin and the place of a refusal, each behind a reference, and the gradient, three numbers for each point.
+#[no_mangle]
+pub extern "C" fn skin_wdw(
+    vtx2ini: &[f64],
+    vtx2def: &[f64],
+    tri2vtx: &[usize],
+    lambda: f64,
+    myu: f64,
+    vtx2dw: &mut [f64],
+    place: &mut usize,
+    w: &mut f64,
+) -> u32
+    ensures { λ r. ⌜ IsSkinExport binary64 (now («vtx2ini» .entry)) (now («vtx2def» .entry)) (now («tri2vtx» .entry)) lambda myu (now («vtx2dw» .entry))
+        r (now (place .exit)) (now (w .exit)) (now («vtx2dw» .exit)) ⌝ }
+{
+    let skin = skin::wdw(vtx2ini, vtx2def, tri2vtx, lambda, myu, vtx2dw);
+    *place = skin.place;
+    *w = skin.w;
+    skin.number
 }
