@@ -110,11 +110,38 @@ static double panel(uint64_t count) {
     return sum;
 }
 
+static double skin(uint64_t count) {
+    size_t numbers = whole(), names = whole(), place;
+    double lambda = number(), myu = number(), w, s = 0, sum = 0;
+    double *ini = list(numbers, sizeof *ini), *def = list(numbers, sizeof *def), *dw = list(numbers, sizeof *dw);
+    size_t *tri = list(names, sizeof *tri);
+    for (size_t i = 0; i < numbers; i++) {
+        ini[i] = number();
+    }
+    for (size_t i = 0; i < numbers; i++) {
+        def[i] = number();
+    }
+    for (size_t i = 0; i < names; i++) {
+        tri[i] = whole();
+    }
+    for (uint64_t k = 0; k < count; k++) {
+        skin_wdw(ini, numbers, def, numbers, tri, names, lambda + s, myu, dw, numbers, &place, &w);
+        sum += w;
+        sum += numbers == 0 ? 0 : dw[numbers - 1];
+        s += STEP;
+    }
+    free(ini);
+    free(def);
+    free(dw);
+    free(tri);
+    return sum;
+}
+
 int main(void) {
     uint64_t kind, bits;
     while (next_word(&kind)) {
         uint64_t count = whole();
-        double sum = kind == 6 ? panel(count) : kernel(kind, count);
+        double sum = kind == 6 ? panel(count) : kind == 7 ? skin(count) : kernel(kind, count);
         memcpy(&bits, &sum, sizeof bits);
         printf("%016llx\n", (unsigned long long)bits);
     }

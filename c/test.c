@@ -1,4 +1,4 @@
-/* Calls every exported function from C on the starred examples of docs/01-scope.md 7, and looks at the raw bits of NaNs, which no statement sees. */
+/* Calls every exported function from C, on the starred examples of docs/01-scope.md 7 and on skins worked by hand, and looks at the raw bits of NaNs, which no statement sees. */
 #include "del_fem.h"
 #include <stdio.h>
 #include <string.h>
@@ -155,6 +155,80 @@ static void masses(void) {
     check("masses, example 4: a name 3", masses_of(far, 3, mass) == DEL_FEM_ACCEPTED);
 }
 
+/* A unit square at rest, and pulled to twice its length in x; the number behind is for lengths that are too long. */
+static const double REST[13] = {0, 0, 0, 1, 0, 0, 0, 1, 0, 1, 1, 0, 0};
+static const double PULLED[13] = {0, 0, 0, 2, 0, 0, 0, 1, 0, 2, 1, 0, 0};
+static const size_t SQUARE[6] = {0, 1, 2, 1, 3, 2};
+
+struct skin {
+    uint32_t number;
+    size_t place;
+    double w, dw[14];
+};
+
+/* myu is 1 */
+static struct skin skin_of(size_t ini_len, const double *def, size_t def_len, const size_t *tri2vtx, size_t names, double lambda, size_t dw_len) {
+    struct skin s = {.place = 99, .w = -7.5};
+    scribble(s.dw, 14);
+    s.number = skin_wdw(REST, ini_len, def, def_len, tri2vtx, names, lambda, 1, s.dw, dw_len, &s.place, &s.w);
+    return s;
+}
+
+static struct skin skin_of_lengths(size_t ini_len, size_t def_len, size_t names, size_t dw_len) {
+    return skin_of(ini_len, PULLED, def_len, SQUARE, names, 2, dw_len);
+}
+
+static struct skin skin_of_four(const double *def, const size_t *tri2vtx, size_t names, double lambda) {
+    return skin_of(12, def, 12, tri2vtx, names, lambda, 12);
+}
+
+/* Each of these looks at all that was lent, by bits. */
+static int accepted(struct skin s, double w, const double *dw) {
+    return s.number == DEL_FEM_ACCEPTED && s.place == 0 && bits(s.w) == bits(w) && are(s.dw, dw) && untouched(s.dw + 12, 2);
+}
+
+static int left_alone(struct skin s, uint32_t number) {
+    return s.number == number && s.place == 0 && bits(s.w) == 0 && untouched(s.dw, 14);
+}
+
+static int refused(struct skin s, uint32_t number, size_t place) {
+    return s.number == number && s.place == place && bits(s.w) == 0 && all_plus_zero(s.dw, 12) && untouched(s.dw + 12, 2);
+}
+
+/*
+ * By hand, on numbers that no operation rounds. The strain is 1.5 in x, so with lambda 2 and myu 1 the stress is 1.5 * 4 = 6 in x and 1.5 * 2 = 3 in y. The energy is
+ * 0.5 * 1.5 * 6 = 4.5 for the square, half of it for one triangle. A side is pulled outwards by 2 * 6 in x or by 3 in y, each end by half of that; a diagonal like the two
+ * sides that it cuts off. No sum from +0 is -0.
+ */
+static void skins(void) {
+    const double nothing[12] = {0}, square[12] = {-6, -1.5, 0, 6, -1.5, 0, -6, 1.5, 0, 6, 1.5, 0}, one[12] = {-6, -1.5, 0, 6, 0, 0, 0, 1.5, 0, 0, 0, 0};
+    const size_t missing[6] = {0, 1, 2, 1, 4, 2}, flat[9] = {0, 1, 2, 1, 1, 2, 1, 3, 2};
+    const double nan = of_bits(NAN_BITS), huge = of_bits(0x7FC0000000000000); /* 2^1021 */
+    double def[12];
+    size_t again[18];
+    memcpy(def, PULLED, sizeof def);
+    for (size_t i = 0; i < 18; i++) {
+        again[i] = i % 3;
+    }
+    check("skin of two triangles", accepted(skin_of_four(PULLED, SQUARE, 6, 2), 4.5, square));
+    check("skin of no names", accepted(skin_of_four(PULLED, SQUARE, 0, 2), 0, nothing));
+    check("skin of no names, lambda a NaN", accepted(skin_of_four(PULLED, SQUARE, 0, nan), 0, nothing));
+    check("skin, a number of vtx2ini too many", left_alone(skin_of_lengths(13, 12, 6, 12), DEL_FEM_BAD_LENGTH));
+    check("skin, a number of vtx2def too many", left_alone(skin_of_lengths(12, 13, 6, 12), DEL_FEM_BAD_LENGTH));
+    check("skin, a number of vtx2dw too many", left_alone(skin_of_lengths(12, 12, 6, 13), DEL_FEM_BAD_LENGTH));
+    check("skin, thirteen numbers each", left_alone(skin_of_lengths(13, 13, 6, 13), DEL_FEM_BAD_LENGTH));
+    check("skin of five names", left_alone(skin_of_lengths(12, 12, 5, 12), DEL_FEM_BAD_LENGTH));
+    check("skin with a name 4", left_alone(skin_of_four(PULLED, missing, 6, 2), DEL_FEM_BAD_NAME));
+    check("skin, lambda a NaN", refused(skin_of_four(PULLED, SQUARE, 6, nan), DEL_FEM_BAD_INPUT, 0));
+    def[9] = nan;
+    check("skin, a NaN in its second triangle", refused(skin_of_four(def, SQUARE, 6, 2), DEL_FEM_BAD_INPUT, 1));
+    check("skin, a NaN that is not named", accepted(skin_of_four(def, SQUARE, 3, 2), 2.25, one));
+    check("skin, a vertex twice in its second triangle, a NaN in its third", refused(skin_of_four(def, flat, 9, 2), DEL_FEM_ZERO_DIVISOR, 1));
+    def[9] = huge;
+    check("skin, an answer too large in its second triangle", refused(skin_of_four(def, SQUARE, 6, 2), DEL_FEM_BAD_ANSWER, 1));
+    check("skin, a sum too large", refused(skin_of_four(PULLED, again, 18, huge), DEL_FEM_BAD_ANSWER, 6));
+}
+
 int main(void) {
     roots();
     bending();
@@ -162,6 +236,7 @@ int main(void) {
     stvk();
     plate();
     masses();
+    skins();
     printf("%d checks passed, %d failed\n", passed, failed);
     return failed != 0;
 }

@@ -7,7 +7,7 @@
  *
  * What the caller owes:
  *   - every pointer is aligned, is not null (not even for a list of no entries) and has as many entries behind it as is stated here;
- *   - the lent buffer overlaps no other argument (the others may overlap each other);
+ *   - what a function writes to (`values`, vtx2mass, vtx2dw, place, w) overlaps no other argument (the others may overlap each other);
  *   - floating point is as a program starts with it: rounding to nearest, no exception unmasked (a kernel divides before it refuses), subnormal numbers not flushed to zero (a program that is
  *     linked with -ffast-math may flush them). Exception flags may be left raised.
  *
@@ -24,10 +24,10 @@
 extern "C" {
 #endif
 
-/* What is returned: the lowest number whose condition holds (01-scope 2.1). */
+/* What is returned: the lowest number whose condition holds (01-scope 2.1); of a skin's triangles the first in the list that is refused gives its own. */
 #define DEL_FEM_ACCEPTED 0u     /* none of the others */
-#define DEL_FEM_BAD_LENGTH 1u   /* masses alone: a length or a limit is wrong */
-#define DEL_FEM_BAD_NAME 2u     /* masses alone: a triangle names a vertex that does not exist */
+#define DEL_FEM_BAD_LENGTH 1u   /* masses and skin alone: a length or a limit is wrong */
+#define DEL_FEM_BAD_NAME 2u     /* masses and skin alone: a triangle names a vertex that does not exist */
 #define DEL_FEM_BAD_INPUT 3u    /* a number that the routine reads is a NaN or an infinity */
 #define DEL_FEM_ZERO_DIVISOR 4u /* a kernel's divisor is zero, of either sign */
 #define DEL_FEM_BAD_ANSWER 5u   /* the finished answer has a NaN or an infinity in it */
@@ -37,7 +37,7 @@ extern "C" {
 #define DEL_FEM_STRAIN_VALUES 30  /* w 3, dw 27 */
 #define DEL_FEM_ENERGY_VALUES 91  /* w 1, dw 9, ddw 81 */
 
-/* The largest panel (01-scope 2.3). */
+/* The largest panel, and the largest skin (01-scope 2.3). */
 #define DEL_FEM_MAX_VERTICES 65536
 #define DEL_FEM_MAX_TRIANGLES 131072
 
@@ -88,6 +88,21 @@ uint32_t mitc_tri3_w_dw_ddw_plate_bending(
  */
 uint32_t mitc_tri3_mass_lumped_plate_bending(const size_t *tri2vtx, size_t tri2vtx_len, const double *vtx2xy, size_t vtx2xy_len, double thick,
     double rho, double *vtx2mass, size_t vtx2mass_len);
+
+/*
+ * The StVK energy of a whole skin and its gradient by the deformed points, for the Lame parameters lambda and myu: what stvk_tri3_wdwddw_ gives for each triangle, added in the
+ * list's order from +0. Each length counts entries.
+ * vtx2ini, vtx2def: three coordinates for each vertex, at rest and deformed. tri2vtx: three vertices for each triangle. vtx2dw: three numbers for each vertex. place, w: one each.
+ * Returns 1 where vtx2ini_len, vtx2def_len and vtx2dw_len are not the same or 3 does not divide them, where there are more than DEL_FEM_MAX_VERTICES vertices or
+ * DEL_FEM_MAX_TRIANGLES triangles, or where 3 does not divide tri2vtx_len; 2 where a vertex that is named does not exist; what stvk_tri3_wdwddw_ returns for the first triangle in
+ * the list that it refuses; 5 where it refuses none, but the energy or an entry of the gradient is not finite; else 0. Nothing but triangles looks at lambda, myu and the points:
+ * an empty list is accepted whatever they are.
+ * vtx2dw holds the gradient after 0 (+0 at a vertex that is not named), +0 throughout after 3, 4 and 5, and what it held before after 1 and 2.
+ * place and w are written by every call, whatever was in them. place: 0 after 0, 1 and 2; after 3, 4 and 5 that of the refused triangle in the list, counted from 0, or how many
+ * triangles there are where none is refused. w: the energy after 0, +0 after a refusal.
+ */
+uint32_t skin_wdw(const double *vtx2ini, size_t vtx2ini_len, const double *vtx2def, size_t vtx2def_len, const size_t *tri2vtx, size_t tri2vtx_len, double lambda,
+    double myu, double *vtx2dw, size_t vtx2dw_len, size_t *place, double *w);
 
 #ifdef __cplusplus
 }
