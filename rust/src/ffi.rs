@@ -42,4 +42,18 @@ extern "C" {
         vtx2mass: *mut f64,
         vtx2mass_len: usize,
     ) -> u32;
+    pub fn skin_wdw(
+        vtx2ini: *const f64,
+        vtx2ini_len: usize,
+        vtx2def: *const f64,
+        vtx2def_len: usize,
+        tri2vtx: *const usize,
+        tri2vtx_len: usize,
+        lambda: f64,
+        myu: f64,
+        vtx2dw: *mut f64,
+        vtx2dw_len: usize,
+        place: *mut usize,
+        w: *mut f64,
+    ) -> u32;
 }

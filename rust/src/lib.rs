@@ -1,18 +1,19 @@
 //! Energies, strains and masses of thin triangles, under the names and in the shapes of nobuyuki83/del-fem.
 //!
 //! Every routine is a safe call of a proved function (`../include/del_fem.h` says what each gives, `../docs/01-scope.md` by which rules). Where the original would
-//! panic or give numbers that mean nothing, the answer is a [`Refusal`].
+//! panic or give numbers that mean nothing, the answer is a [`Refusal`]. The original has no [`skin`]: it adds up what [`stvk_tri3::wdwddw_`] gives for many triangles.
 
 mod ffi;
 pub mod mitc_tri3;
 pub mod quadratic_bending;
 mod refusal;
 pub mod root;
+pub mod skin;
 pub mod stvk_tri3;
 
 pub use refusal::Refusal;
 
-/// The most vertices that a panel may have.
+/// The most vertices that a panel or a skin may have.
 pub const MAX_VERTICES: usize = 65_536;
 /// The most triangles.
 pub const MAX_TRIANGLES: usize = 131_072;

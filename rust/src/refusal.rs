@@ -1,6 +1,6 @@
 use std::fmt;
 
-/// Why a routine gives no numbers. Where several reasons hold, the one with the lowest number is given.
+/// Why a routine gives no numbers. Where several reasons hold, the one with the lowest number is given; of a skin's triangles the first that is refused gives its own.
 #[derive(Clone, Copy, Debug, PartialEq, Eq, Hash)]
 #[non_exhaustive]
 pub enum Refusal {

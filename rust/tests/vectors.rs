@@ -1,5 +1,5 @@
 //! Every routine on every stored record of its kind, against the oracle's answers, bit for bit (docs/REPLAY.md has the layout).
-use del_fem::{mitc_tri3, quadratic_bending, root, stvk_tri3, Energy, Refusal};
+use del_fem::{mitc_tri3, quadratic_bending, root, skin, stvk_tri3, Energy, Refusal};
 use std::path::Path;
 
 /// How many words follow a helper's number; the helpers themselves are not exported.
@@ -21,6 +21,10 @@ impl Records<'_> {
 
     fn count(&mut self) -> Option<usize> {
         self.word().map(|w| w.try_into().expect("a length"))
+    }
+
+    fn counts(&mut self, n: usize) -> Option<Vec<usize>> {
+        (0..n).map(|_| self.count()).collect()
     }
 
     fn numbers(&mut self, n: usize) -> Option<Vec<f64>> {
@@ -116,7 +120,7 @@ fn masses_line(r: &mut Records) -> Option<Line> {
     let (n, t, b) = (r.count()?, r.count()?, r.count()?);
     let (thick, rho) = (r.number()?, r.number()?);
     let vtx2xy = r.numbers(n)?;
-    let tri2vtx: Vec<usize> = (0..t).map(|_| r.count()).collect::<Option<_>>()?;
+    let tri2vtx = r.counts(t)?;
     let mut mass = r.numbers(b)?;
     let answer = mitc_tri3::mass_lumped_plate_bending(&tri2vtx, &vtx2xy, thick, rho, &mut mass);
     Some(line(
@@ -125,13 +129,30 @@ fn masses_line(r: &mut Records) -> Option<Line> {
     ))
 }
 
+/// The line of a skin's energy, or of its refusal, with the place behind the number: 0 where there is none.
+fn skin_line(r: &mut Records) -> Option<Line> {
+    let (n, m, t, b) = (r.count()?, r.count()?, r.count()?, r.count()?);
+    let (lambda, myu) = (r.number()?, r.number()?);
+    let (vtx2ini, vtx2def) = (r.numbers(n)?, r.numbers(m)?);
+    let tri2vtx = r.counts(t)?;
+    let mut dw = r.numbers(b)?;
+    let answer = skin::wdw(&vtx2ini, &vtx2def, &tri2vtx, lambda, myu, &mut dw);
+    let (number, place, w) = match answer {
+        Ok(w) => (0, 0, w),
+        Err(refused) => (refused.refusal.number(), refused.place.unwrap_or(0), 0.0),
+    };
+    let mut line = vec![number.into(), place as u64, bits(w)];
+    line.extend(dw.into_iter().map(bits));
+    Some(line)
+}
+
 #[test]
 fn every_record_is_answered_as_the_oracle_does() {
     let replay = Path::new(env!("CARGO_MANIFEST_DIR")).join("../crates/replay");
     let records = std::fs::read(replay.join("stdin")).expect("the records");
     let answers = std::fs::read_to_string(replay.join("stdout")).expect("the answers");
     let mut records = Records(&records);
-    let mut ran = [0; 7];
+    let mut ran = [0; 8];
     let mut answers = answers.lines().enumerate();
     for (at, want) in answers.by_ref().take_while(|(_, want)| *want != "?") {
         let kind = records.word().expect("a record for each answer");
@@ -142,6 +163,7 @@ fn every_record_is_answered_as_the_oracle_does() {
             4 => stvk_line(&mut records),
             5 => plate_line(&mut records),
             6 => masses_line(&mut records),
+            7 => skin_line(&mut records),
             9 => {
                 let helper = records.count().expect("a helper");
                 records.numbers(HELPER_INPUTS[helper]).expect("its inputs");

@@ -1,0 +1,67 @@
+//! The StVK energy of a whole skin.
+use crate::{ffi, Refusal};
+use std::fmt;
+
+/// Why a skin has no energy, and where. Lengths and names are refused before any triangle is looked at and have no place; the option says so, 0 being the first triangle's.
+#[derive(Clone, Copy, Debug, PartialEq, Eq, Hash)]
+pub struct Refused {
+    pub refusal: Refusal,
+    /// The first triangle in the list that is refused, counted from 0, or how many there are where only a sum is not finite.
+    pub place: Option<usize>,
+}
+
+impl Refused {
+    fn at(refusal: Refusal, place: usize) -> Self {
+        let place = match refusal {
+            Refusal::BadLength | Refusal::BadName => None,
+            _ => Some(place),
+        };
+        Self { refusal, place }
+    }
+}
+
+impl fmt::Display for Refused {
+    fn fmt(&self, f: &mut fmt::Formatter) -> fmt::Result {
+        match self.place {
+            Some(place) => write!(f, "{}, at place {place}", self.refusal),
+            None => self.refusal.fmt(f),
+        }
+    }
+}
+
+impl std::error::Error for Refused {}
+
+/// The energy of the skin with the points `vtx2ini` at rest and `vtx2def` deformed, and its gradient by the deformed points into `vtx2dw`: three numbers for each point
+/// in all three lists. Both are sums of what [`crate::stvk_tri3::wdwddw_`] gives, in the order of `tri2vtx` from +0. After a refusal with a place the buffer is +0 throughout; any
+/// other leaves it as it was.
+pub fn wdw(
+    vtx2ini: &[f64],
+    vtx2def: &[f64],
+    tri2vtx: &[usize],
+    lambda: f64,
+    myu: f64,
+    vtx2dw: &mut [f64],
+) -> Result<f64, Refused> {
+    let (mut place, mut w) = (0, 0.0);
+    // SAFETY: each pointer comes with its slice's own length; the lent slice is borrowed alone, place and w are locals.
+    let number = unsafe {
+        ffi::skin_wdw(
+            vtx2ini.as_ptr(),
+            vtx2ini.len(),
+            vtx2def.as_ptr(),
+            vtx2def.len(),
+            tri2vtx.as_ptr(),
+            tri2vtx.len(),
+            lambda,
+            myu,
+            vtx2dw.as_mut_ptr(),
+            vtx2dw.len(),
+            &mut place,
+            &mut w,
+        )
+    };
+    match Refusal::of(number) {
+        Ok(()) => Ok(w),
+        Err(refusal) => Err(Refused::at(refusal, place)),
+    }
+}
