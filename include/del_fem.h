@@ -37,7 +37,7 @@ extern "C" {
 #define DEL_FEM_STRAIN_VALUES 30  /* w 3, dw 27 */
 #define DEL_FEM_ENERGY_VALUES 91  /* w 1, dw 9, ddw 81 */
 
-/* The largest panel, and the largest skin (01-scope 2.3). */
+/* The largest panel, and the largest skin (01-scope 2.3, 2.5). */
 #define DEL_FEM_MAX_VERTICES 65536
 #define DEL_FEM_MAX_TRIANGLES 131072
 
@@ -91,7 +91,7 @@ uint32_t mitc_tri3_mass_lumped_plate_bending(const size_t *tri2vtx, size_t tri2v
 
 /*
  * The StVK energy of a whole skin and its gradient by the deformed points, for the Lame parameters lambda and myu: what stvk_tri3_wdwddw_ gives for each triangle, added in the
- * list's order from +0. Each length counts entries.
+ * list's order from +0 (01-scope 5.8, 2.5). Each length counts entries.
  * vtx2ini, vtx2def: three coordinates for each vertex, at rest and deformed. tri2vtx: three vertices for each triangle. vtx2dw: three numbers for each vertex. place, w: one each.
  * Returns 1 where vtx2ini_len, vtx2def_len and vtx2dw_len are not the same or 3 does not divide them, where there are more than DEL_FEM_MAX_VERTICES vertices or
  * DEL_FEM_MAX_TRIANGLES triangles, or where 3 does not divide tri2vtx_len; 2 where a vertex that is named does not exist; what stvk_tri3_wdwddw_ returns for the first triangle in

@@ -41,6 +41,6 @@ module _ (f : Format) where
   abbrev pub IsPlateExport : (p u : List (List Float)) (thk lambda myu : Float) (r : ℕ) (values : List Float) → Type 0
   IsPlateExport p u thk lambda myu = GivesEnergy (wDwDdwPlateBendingOf f (tri2.cornersOf p) (tri3.cornersOf u) thk lambda myu)
 
-  -- THE statement of `skin_wdw` (request 1/12): the number, the place and the energy are those of skin's own answer
+  -- THE statement of `skin_wdw` (01-scope 5.8, 2.5): the number, the place and the energy are those of skin's own answer
   abbrev pub IsSkinExport : (vtx2ini vtx2def : List Float) (tri2vtx : List ℕ) (lambda myu : Float) (before : List Float) (r place : ℕ) (w : Float) (after : List Float) → Type 0
   IsSkinExport vtx2ini vtx2def tri2vtx lambda myu before r place w = IsSkin f vtx2ini vtx2def tri2vtx lambda myu before (record { number = r; place = place; w = w })
