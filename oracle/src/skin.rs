@@ -1,5 +1,5 @@
-//! StVK over a whole skin: the kernel's answer for each triangle, added in list
-//! order from +0. The original has no such routine.
+//! StVK over a whole skin: the kernel's answer for each triangle, summed from +0
+//! as the list goes. The original has no such routine.
 
 use crate::answer::Answer;
 use crate::kernels::{self, finite};

@@ -1,7 +1,7 @@
 //! Energies, strains and masses of thin triangles, under the names and in the shapes of nobuyuki83/del-fem.
 //!
 //! Every routine is a safe call of a proved function (`../include/del_fem.h` says what each gives, `../docs/01-scope.md` by which rules). Where the original would
-//! panic or give numbers that mean nothing, the answer is a [`Refusal`]. The original has no [`skin`]: it adds up what [`stvk_tri3::wdwddw_`] gives for many triangles.
+//! panic or give numbers that mean nothing, the answer is a [`Refusal`]. [`skin`] is not the original's: it adds up what [`stvk_tri3::wdwddw_`] gives for many triangles.
 
 mod ffi;
 pub mod mitc_tri3;

@@ -32,8 +32,11 @@ impl fmt::Display for Refused {
 impl std::error::Error for Refused {}
 
 /// The energy of the skin with the points `vtx2ini` at rest and `vtx2def` deformed, and its gradient by the deformed points into `vtx2dw`: three numbers for each point
-/// in all three lists. Both are sums of what [`crate::stvk_tri3::wdwddw_`] gives, in the order of `tri2vtx` from +0. After a refusal with a place the buffer is +0 throughout; any
-/// other leaves it as it was.
+/// in all three lists. Both are sums of what [`crate::stvk_tri3::wdwddw_`] gives, in the order of `tri2vtx` from +0.
+///
+/// Refused are lists of different lengths or of a length that 3 does not divide, more than [`crate::MAX_VERTICES`] or [`crate::MAX_TRIANGLES`], a name of no vertex; then the first
+/// triangle that the kernel refuses, its Hessian included; then a sum that is not finite. Without triangles nothing but the lengths is looked at. After a refusal with a
+/// place the buffer is +0 throughout; any other leaves it as it was.
 pub fn wdw(
     vtx2ini: &[f64],
     vtx2def: &[f64],

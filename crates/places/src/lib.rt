@@ -1,4 +1,4 @@
-// A flat list that keeps three numbers for each vertex of a panel, those of vertex i at i * 3, i * 3 + 1 and i * 3 + 2: what a triangle gives its vertices is added to it.
+// A flat list that keeps three numbers for each vertex of a panel or a skin, those of vertex i at i * 3, i * 3 + 1 and i * 3 + 2: what a triangle gives its vertices is added to it.
 ghost use mathlib.Core.Path.{_≡_};
 ghost use Prim.Native.Nat.{_+_, _*_, _<_};
 ghost use lib.Ieee.{binary64};

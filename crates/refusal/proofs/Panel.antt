@@ -1,4 +1,4 @@
--- What is known of a panel that passed a test: its lengths, and each of its names.
+-- What is known of a panel or a skin that passed a test: its lengths, and each of its names.
 use mathlib.Core.Path.{_≡_}
 use mathlib.Core.Bool.{true, false, _&&_}
 use mathlib.Core.List.{List}

@@ -1,4 +1,4 @@
--- Tests of a panel's lists: their lengths (01-scope 2.3, 2.1: 1), and the names of its triangles (01-scope 2.1: 2).
+-- Tests of a panel's or a skin's lists: their lengths (01-scope 2.3, 2.5), and the names of its triangles (01-scope 2.1: 2).
 use mathlib.Core.Bool.{Bool, not, _&&_}
 use mathlib.Core.List.{List}
 use Prim.Native.Nat.{ℕ, _*_, _/_, _%_}

@@ -1,4 +1,4 @@
-// The refusal numbers of 01-scope 2.1, the ladder that picks one, the answers that several kernels share, and the tests of a panel's lists.
+// The refusal numbers of 01-scope 2.1, the ladder that picks one, the answers that several kernels share, and the tests of a panel's or a skin's lists.
 ghost use mathlib.Core.Path.{_≡_};
 ghost use mathlib.Core.Bool.{cond};
 ghost use lib.Ieee.{binary64};
@@ -18,7 +18,7 @@ pub const ZERO_DIVISOR: u32 = 4;
 // The finished answer has a NaN or an infinity in it.
 pub const BAD_ANSWER: u32 = 5;
 
-// The most vertices of a panel (01-scope 2.3).
+// The most vertices of a panel or a skin (01-scope 2.3, 2.5).
 pub const MAX_VERTICES: usize = 65_536;
 // The most triangles.
 pub const MAX_TRIANGLES: usize = 131_072;
@@ -71,7 +71,7 @@ pub fn answer_energy(number: u32, w: f64, dw: [f64; 9], ddw: [f64; 81]) -> Energ
     }
 }
 
-// Whether a panel of so many vertices and so many names, three for each triangle, is within the limits.
+// Whether a list of so many vertices and so many names, three for each triangle, is within the limits.
 fn within_limits(vertices: usize, names: usize) -> bool
     ensures { λ r. ⌜ r ≡ withinLimits vertices names ⌝ }
 {

@@ -31,7 +31,7 @@ cornersAt vtx2xyz i0 i1 i2 = pointAt vtx2xyz i0 ∷ pointAt vtx2xyz i1 ∷ point
 abbrev pub verticesOf : (vtx2ini : List Float) → ℕ
 verticesOf vtx2ini = length vtx2ini / 3
 
--- a limit is passed; or the two point lists and the gradient are not of one length; or 3 does not divide it
+-- a limit is passed; or points at rest, deformed points and gradient differ in length; or 3 does not divide it
 unfoldable pub badLengthOf : (ini def names places : ℕ) → Bool
 badLengthOf ini def names places = panel.badLengthOf (ini / 3) names places || not (eqb ini places) || not (eqb def places)
 
