@@ -1,14 +1,14 @@
 -- Where the triangles of a list are added to +0, each place holds what they give its vertex, added in the list's order: kept by every triangle.
 use mathlib.Core.Path.{_≡_, refl, _∙_}
-use mathlib.Core.Bool.{Bool, true, false}
+use mathlib.Core.Bool.{Bool, true, false, not}
 use mathlib.Core.List.{List, [], _++_}
 use Prim.Native.Nat.{ℕ, _+_, _*_, _<_}
 use native.Mathlib.Omega.{arith}
 use lib.Dec.{eqb, ltb}
 use lib.Ieee.{Float, Format, nan}
 use lib.ListN.{length, getD-replicate, length-replicate}
-use borrow.Author.Tests.{ltb-true}
-use Rattle.float.specs.Lists.{_!_, cleared, fold, foldThrees, total}
+use borrow.Author.Tests.{ltb-true, not-true}
+use Rattle.float.specs.Lists.{_!_, cleared, every, fold, foldThrees, total}
 use Rattle.float.specs.Ops.{Ops, ops}
 use Rattle.float.proofs.Fold.{fold-append, threes-keep}
 use Rattle.refusal.specs.Panel.{namesBelow}
@@ -66,3 +66,13 @@ module _ (f : Format) {A : Type 0} (of : (c i0 i1 i2 : ℕ) → A) (part : A →
     added-holds v k h k3 =
         let start : Keeps n v k k3 (cleared f values) [] = (length-replicate _ (ops f .zero) ∙ size, getD-replicate (length values) (v * 3 + k) (ops f .zero) nan (omega arith)) in
         threes-keep add _ (λ i. ltb i n) (Keeps n v k k3) (turn n v k k3) names _ [] below start .1
+
+-- a vertex without a name is given nothing, so its places hold +0
+module _ {A : Type 0} (of : (c i0 i1 i2 : ℕ) → A) (v : ℕ) where
+  none-given : (l : List A) (i0 i1 i2 : ℕ) → not (eqb i0 v) ≡ true → not (eqb i1 v) ≡ true → not (eqb i2 v) ≡ true → l ≡ [] → l ++ namedBy of v i0 i1 i2 ≡ []
+  unfolding namedBy
+  none-given l i0 i1 i2 e0 e1 e2 h = rw (h, not-true (eqb i0 v) e0, not-true (eqb i1 v) e1, not-true (eqb i2 v) e2)
+
+  pub unnamed : (names : List ℕ) → every (λ i. not (eqb i v)) names ≡ true → givenTo of v names ≡ []
+  unfolding givenTo
+  unnamed names e = threes-keep {C = Unit} _ (λ c i0 i1 i2. c) (λ i. not (eqb i v)) (λ l c. l ≡ []) (λ l c i0 i1 i2 e0 e1 e2 h. none-given l i0 i1 i2 e0 e1 e2 h) names [] tt e refl

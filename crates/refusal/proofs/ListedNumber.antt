@@ -12,7 +12,7 @@ use Rattle.refusal.specs.Refusal.{accepted, badLength, badName, badInput
 use Rattle.refusal.specs.Listed.{firstRefusal, firstPlace, listedNumber, listedPlace, NoneRefused, FirstAt, ListedExactly}
 use Rattle.refusal.proofs.Listed.{first-exactly, none-exactly, none-place}
 
--- of two rows, and what comes after them: 0 or above 2
+-- of two rows, and what comes after them: 0 or above 2 (the ladder's own law wants every row's number, and the third row's is that of an answer)
 one : (a b : Bool) (l : ℕ) → ((l ≡ accepted → ⊥) → badName < l) → cond a badLength (cond b badName l) ≡ badLength → a ≡ true
 one true b l above e = refl
 one false true l above e = absurd (omega arith)
@@ -49,14 +49,28 @@ module _ (lengthBad nameBad : Bool) (numbers : List ℕ) (sumBad : Bool)
       let at = first-exactly first z numbers (firstPlace numbers) .0 (refl, refl) .0 in
       rw at at (above (firstPlace numbers) (rw at z))
 
-  -- what is given after them is 0 or above 2
-  later-above : (later ≡ accepted → ⊥) → badName < later
-  later-above = split (eqb first accepted) refl sumBad
+  -- n is given for an answer, for the sum, or for nothing
+  abbrev Given : (n : ℕ) → Type 0
+  Given n =
+      ((first ≡ n) × (n ≡ accepted → ⊥))
+      ⊎ (((first ≡ accepted) × (sumBad ≡ true) × (n ≡ badAnswer)) ⊎ ((first ≡ accepted) × (sumBad ≡ false) × (n ≡ accepted)))
+
+  given : (n : ℕ) → later ≡ n → Given n
+  given n = split (eqb first accepted) refl sumBad refl
     where
-      split : (b : Bool) → eqb first accepted ≡ b → (s : Bool) → let l = cond (not b) first (cond s badAnswer accepted) in (l ≡ accepted → ⊥) → badName < l
-      split true e true z = omega arith
-      split true e false z = absurd (z refl)
-      split false e s z = first-above z
+      split : (b : Bool) → eqb first accepted ≡ b → (s : Bool) → sumBad ≡ s → cond (not b) first (cond s badAnswer accepted) ≡ n → Given n
+      split true e true t h = inr (inl (eqb-true first accepted e, t, sym h))
+      split true e false t h = inr (inr (eqb-true first accepted e, t, sym h))
+      split false e s t h = inl (h, λ z. eqb-false first accepted e (h ∙ z))
+
+  -- it is 0 or above 2
+  later-above : (later ≡ accepted → ⊥) → badName < later
+  later-above = by (given later refl)
+    where
+      by : Given later → (later ≡ accepted → ⊥) → badName < later
+      by (inl (e, _)) z = rw e at (first-above (rw e z))
+      by (inr (inl (_, _, e))) z = omega (arith, e)
+      by (inr (inr (_, _, e))) z = absurd (z e)
 
   number-is : lengthBad ≡ false → nameBad ≡ false → number ≡ later
   unfolding listedNumber firstOf
@@ -88,23 +102,18 @@ module _ (lengthBad nameBad : Bool) (numbers : List ℕ) (sumBad : Bool)
     at-place : number ≡ n → place ≡ k → first ≡ n → FirstAt numbers k n
     at-place e p is = first-exactly n nonzero numbers k .0 (is, sym (place-is (rw e h)) ∙ p)
 
-  -- the answer that is refused, or else the sum
-  which : (n : ℕ) → (n ≡ accepted → ⊥) → later ≡ n → (first ≡ n) ⊎ ((first ≡ accepted) × (sumBad ≡ true) × (n ≡ badAnswer))
-  which n z = split (eqb first accepted) refl sumBad refl
-    where
-      split : (b : Bool) → eqb first accepted ≡ b → (s : Bool) → sumBad ≡ s → cond (not b) first (cond s badAnswer accepted) ≡ n
-          → (first ≡ n) ⊎ ((first ≡ accepted) × (sumBad ≡ true) × (n ≡ badAnswer))
-      split true e true t h = inr (eqb-true first accepted e, t, sym h)
-      split true e false t h = absurd (z (sym h))
-      split false e s t h = inl h
-
   refused-exactly : (n k : ℕ) → badName < n → (n ≡ badAnswer → ⊥) → ((number ≡ n) × (place ≡ k)) ↔ ((lengthBad ≡ false) × (nameBad ≡ false) × FirstAt numbers k n)
   refused-exactly n k h z = ((λ g. there (g .0) (g .1)), λ g. found n k h (g .0) (g .1) (g .2))
     where
+      by : Given n → first ≡ n
+      by (inl (e, _)) = e
+      by (inr (inl (_, _, e))) = absurd (z e)
+      by (inr (inr (_, _, e))) = absurd (nonzero n k h e)
+
       there : number ≡ n → place ≡ k → (lengthBad ≡ false) × (nameBad ≡ false) × FirstAt numbers k n
       there e p =
           let t = passed n (λ (e : n ≡ badLength). omega arith) (λ (e : n ≡ badName). omega arith) e in
-          (t .0, t .1, at-place n k h e p (⊎-elim (λ is. is) (λ sum. absurd (z (sum .2))) (which n (nonzero n k h) (t .2))))
+          (t .0, t .1, at-place n k h e p (by (given n (t .2))))
 
   sum-exactly : (k : ℕ) → ((number ≡ badAnswer) × (place ≡ k))
       ↔ ((lengthBad ≡ false) × (nameBad ≡ false) × (FirstAt numbers k badAnswer ⊎ (NoneRefused numbers × (sumBad ≡ true) × (k ≡ length numbers))))
@@ -113,17 +122,14 @@ module _ (lengthBad nameBad : Bool) (numbers : List ℕ) (sumBad : Bool)
       above-name : badName < badAnswer
       above-name = omega arith
 
+      by : number ≡ badAnswer → place ≡ k → Given badAnswer → FirstAt numbers k badAnswer ⊎ (NoneRefused numbers × (sumBad ≡ true) × (k ≡ length numbers))
+      by e p (inl (is, _)) = inl (at-place badAnswer k above-name e p is)
+      by e p (inr (inl (all, bad, _))) = inr (none-exactly numbers .0 all, bad, sym p ∙ place-is (rw e above-name) ∙ none-place numbers all)
+      by e p (inr (inr (_, _, z))) = absurd (eqb-false badAnswer accepted refl z)
+
       there : number ≡ badAnswer → place ≡ k
           → (lengthBad ≡ false) × (nameBad ≡ false) × (FirstAt numbers k badAnswer ⊎ (NoneRefused numbers × (sumBad ≡ true) × (k ≡ length numbers)))
-      there e p =
-          let t = passed badAnswer (eqb-false badAnswer badLength refl) (eqb-false badAnswer badName refl) e in
-          let at : place ≡ firstPlace numbers = place-is (rw e above-name) in (
-            t .0,
-            t .1,
-            ⊎-elim (λ is. inl (at-place badAnswer k above-name e p is))
-                (λ sum. inr (none-exactly numbers .0 (sum .0), sum .1, sym p ∙ at ∙ none-place numbers (sum .0)))
-                (which badAnswer (nonzero badAnswer k above-name) (t .2)),
-          )
+      there e p = let t = passed badAnswer (eqb-false badAnswer badLength refl) (eqb-false badAnswer badName refl) e in (t .0, t .1, by e p (given badAnswer (t .2)))
 
       back : lengthBad ≡ false → nameBad ≡ false → NoneRefused numbers × (sumBad ≡ true) × (k ≡ length numbers) → (number ≡ badAnswer) × (place ≡ k)
       back e1 e2 (none, s, at) =
@@ -131,13 +137,10 @@ module _ (lengthBad nameBad : Bool) (numbers : List ℕ) (sumBad : Bool)
           let e : number ≡ badAnswer = number-is e1 e2 ∙ rw (all, s) in
           (e, place-is (rw e above-name) ∙ none-place numbers all ∙ sym at)
 
-  every-one : later ≡ accepted → (first ≡ accepted) × (sumBad ≡ false)
-  every-one = split (eqb first accepted) refl sumBad refl
-    where
-      split : (b : Bool) → eqb first accepted ≡ b → (s : Bool) → sumBad ≡ s → cond (not b) first (cond s badAnswer accepted) ≡ accepted → (first ≡ accepted) × (sumBad ≡ false)
-      split true e true t h = absurd (omega arith)
-      split true e false t h = (eqb-true first accepted e, t)
-      split false e s t h = absurd (eqb-false first accepted e h)
+  every-one : Given accepted → NoneRefused numbers × (sumBad ≡ false)
+  every-one (inl (_, z)) = absurd (z refl)
+  every-one (inr (inl (_, _, e))) = absurd (eqb-false accepted badAnswer refl e)
+  every-one (inr (inr (all, fine, _))) = (none-exactly numbers .0 all, fine)
 
   -- THE law of a call over a list
   pub listed-exactly : ListedExactly number place lengthBad nameBad numbers sumBad
@@ -150,7 +153,7 @@ module _ (lengthBad nameBad : Bool) (numbers : List ℕ) (sumBad : Bool)
     refused-5-exactly = sum-exactly;
     accepted-exactly = (
       (λ e. let t = passed accepted (eqb-false accepted badLength refl) (eqb-false accepted badName refl) e in
-          let all = every-one (t .2) in (t .0, t .1, none-exactly numbers .0 (all .0), all .1)),
+          let all = every-one (given accepted (t .2)) in (t .0, t .1, all .0, all .1)),
       (λ h. number-is (h .0) (h .1) ∙ rw (none-exactly numbers .1 (h .2), h .3)),
     );
     no-place = λ h. rw (le-leb number badName h);

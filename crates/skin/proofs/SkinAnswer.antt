@@ -1,5 +1,5 @@
 -- What `wdw` answers, in the scope's words: one answer fits; each number is given, and for which place, exactly where its test holds and nothing before it is refused; and
--- what the energy and the buffer are after each.
+-- what the energy and the buffer are after each. And what is known of the lengths where they are right.
 use mathlib.Core.Path.{_≡_, refl}
 use mathlib.Core.Bool.{Bool, true, false, not, cond, _||_}
 use mathlib.Core.List.{List}
@@ -8,7 +8,7 @@ use native.Mathlib.Omega.{arith}
 use lib.Dec.{eqb, leb, ltb}
 use lib.Ieee.{Float, Format}
 use lib.ListN.{length, getD, List·getD-eq-default}
-use borrow.Author.Tests.{eqb-true, ne-eqb, ltb-true, ltb-false, le-leb, lt-leb, not-true, not-false}
+use borrow.Author.Tests.{eqb-true, ne-eqb, ltb-true, ltb-false, le-leb, lt-leb, not-false}
 use Rattle.float.specs.Lists.{cleared}
 use Rattle.float.specs.Ops.{Ops, ops}
 use Rattle.float.proofs.Fold.{map-length, map-at}

@@ -87,7 +87,7 @@ module _ (f : Format) where
   abbrev pub refusedOf : (number place : ℕ) → Skin
   refusedOf number place = record { number = number; place = place; w = zero }
 
-  -- of the triangles up to the first that is refused, added to `before`: where none is, that is all of them
+  -- what `add_all` answers: the first refusal and its place; where there is none, every triangle's energy from +0, and their gradients added to `before`
   abbrev pub IsSum : (vtx2ini vtx2def : List Float) (tri2vtx : List ℕ) (lambda myu : Float) (before : List Float) (r : Skin) (after : List Float) → Type 0
   IsSum vtx2ini vtx2def tri2vtx lambda myu before r after =
       let numbers = numbersOf vtx2ini vtx2def lambda myu tri2vtx in

@@ -15,7 +15,7 @@ use refusal::BAD_LENGTH;
 use refusal::BAD_NAME;
 use refusal::Energy;
 
-// The refusal number; where the triangle that was refused stands in the list, counted from 0, or how many there are where only a sum was; the energy.
+// The refusal number; where the triangle that was refused stands in the list, counted from 0, or how many there are where only a sum was, and 0 after 0, 1 and 2; the energy.
 pub struct Skin {
     pub number: u32,
     pub place: usize,
@@ -97,7 +97,7 @@ fn add_gradient(vtx2dw: &mut [f64], i0: usize, i1: usize, i2: usize, dw: [f64; 9
     places::add_triangle(vtx2dw, i0, i1, i2, x0, x1, x2);
 }
 
-// The triangles in the list's order, up to the first that is refused.
+// Adds the triangles in the list's order, up to the first that is refused: its number, how many were added, and their energy.
 fn add_all(
     vtx2ini: &[f64],
     vtx2def: &[f64],

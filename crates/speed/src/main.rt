@@ -15,6 +15,10 @@ const SKIN: u64 = 7;
 // By how much every number moves from one call to the next, so that no call can use what another computed: 2^-20.
 pub(crate) const STEP: f64 = 0.00000095367431640625;
 
+pub(crate) fn last(xs: &[f64]) -> f64 {
+    if 0 < xs.len() { xs[xs.len() - 1] } else { 0.0 }
+}
+
 fn moved_row(a: [f64; 3], s: f64) -> [f64; 3] {
     [a[0] + s, a[1] + s, a[2] + s]
 }

@@ -1,10 +1,7 @@
 // Calls of the masses on a panel from standard input.
 use crate::STEP;
 use crate::input;
-
-pub(crate) fn last(xs: &[f64]) -> f64 {
-    if 0 < xs.len() { xs[xs.len() - 1] } else { 0.0 }
-}
+use crate::last;
 
 // The thickness moves from one call to the next.
 fn calls(

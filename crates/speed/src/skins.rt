@@ -1,7 +1,7 @@
 // Calls of a whole skin from standard input.
 use crate::STEP;
 use crate::input;
-use crate::masses;
+use crate::last;
 
 // Lambda moves from one call to the next.
 fn calls(
@@ -17,7 +17,7 @@ fn calls(
     let mut sum = 0.0;
     for _ in 0..count {
         let answer = skin::wdw(vtx2ini, vtx2def, tri2vtx, lambda + s, myu, vtx2dw);
-        sum = sum + answer.w + masses::last(vtx2dw);
+        sum = sum + answer.w + last(vtx2dw);
         s = s + STEP;
     }
     sum
