@@ -71,7 +71,7 @@ pub fn answer_energy(number: u32, w: f64, dw: [f64; 9], ddw: [f64; 81]) -> Energ
     }
 }
 
-// Whether a list of so many vertices and so many names, three for each triangle, is within the limits.
+// Whether so many vertices and so many names, three for each triangle, are within the limits.
 fn within_limits(vertices: usize, names: usize) -> bool
     ensures { λ r. ⌜ r ≡ withinLimits vertices names ⌝ }
 {
