@@ -95,8 +95,8 @@ uint32_t mitc_tri3_mass_lumped_plate_bending(const size_t *tri2vtx, size_t tri2v
  * vtx2ini, vtx2def: three coordinates for each vertex, at rest and deformed. tri2vtx: three vertices for each triangle. vtx2dw: three numbers for each vertex. place, w: one each.
  * Returns 1 where vtx2ini_len, vtx2def_len and vtx2dw_len are not the same or 3 does not divide them, where there are more than DEL_FEM_MAX_VERTICES vertices or
  * DEL_FEM_MAX_TRIANGLES triangles, or where 3 does not divide tri2vtx_len; 2 where a vertex that is named does not exist; what stvk_tri3_wdwddw_ returns for the first triangle in
- * the list that it refuses (5 also where only that triangle's Hessian is not finite); 5 where it refuses none, but the energy or an entry of the gradient is not finite; else 0. Nothing but triangles looks at lambda, myu and the points:
- * an empty list is accepted whatever they are.
+ * the list that it refuses (5 also where only that triangle's Hessian is not finite); 5 where it refuses none, but the energy or an entry of the gradient is not finite; else 0.
+ * Nothing but triangles looks at lambda, myu and the points: an empty list is accepted whatever they are.
  * vtx2dw holds the gradient after 0 (+0 at a vertex that is not named), +0 throughout after 3, 4 and 5, and what it held before after 1 and 2.
  * place and w are written by every call, whatever was in them. place: 0 after 0, 1 and 2; after 3, 4 and 5 that of the refused triangle in the list, counted from 0, or how many
  * triangles there are where none is refused. w: the energy after 0, +0 after a refusal.

@@ -7,7 +7,7 @@ use Prim.Native.Nat.{ℕ, zero, suc, _+_, _≤_, _<_}
 use native.Mathlib.Nat.{not-suc-le-zero, le-of-suc-le-suc}
 use native.Mathlib.Numerals.{add-one}
 use native.Mathlib.Omega.{arith}
-use lib.ListN.{length, getD, drop, drop-of-length-le}
+use lib.ListN.{length, getD, drop, replicate, drop-of-length-le}
 use lib.Seq.{drop-cons}
 use Rattle.float.specs.Lists.{every}
 
@@ -48,6 +48,11 @@ module _ {A : Type 0} (p : A → Bool) where
   unfolding every
   every-all [] d h = refl
   every-all (x ∷ xs) d h = rw (h 0 (omega arith)) (every-all xs d (λ k l. h (suc k) (omega arith)))
+
+  pub every-same : (n : ℕ) (x : A) → p x ≡ true → every p (replicate n x) ≡ true
+  unfolding every
+  every-same zero x e = refl
+  every-same (suc n) x e = rw e (every-same n x e)
 
   -- a test over a list says it of each element
   pub every-iff : (l : List A) (d : A) → every p l ≡ true ↔ ((k : ℕ) → k < length l → p (getD l k d) ≡ true)

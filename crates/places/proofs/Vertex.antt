@@ -75,4 +75,4 @@ module _ {A : Type 0} (of : (c i0 i1 i2 : ℕ) → A) (v : ℕ) where
 
   pub unnamed : (names : List ℕ) → every (λ i. not (eqb i v)) names ≡ true → givenTo of v names ≡ []
   unfolding givenTo
-  unnamed names e = threes-keep {C = Unit} _ (λ c i0 i1 i2. c) (λ i. not (eqb i v)) (λ l c. l ≡ []) (λ l c i0 i1 i2 e0 e1 e2 h. none-given l i0 i1 i2 e0 e1 e2 h) names [] tt e refl
+  unnamed names e = threes-keep {C = Unit} _ (λ c i0 i1 i2. c) (λ i. not (eqb i v)) (λ l c. l ≡ []) (λ l c. none-given l) names [] tt e refl

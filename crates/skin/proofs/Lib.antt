@@ -1,3 +1,4 @@
 pub mod Sum
 pub mod SkinAnswer
 pub mod Vertex
+pub mod Empty
