@@ -51,7 +51,8 @@ fn wide(b: u8) -> u64
     b as u64
 }
 
-fn four_bytes(a: u8, b: u8, c: u8, d: u8) -> u64
+// The number of 32 bits whose bytes these are, the highest first.
+pub fn four_bytes(a: u8, b: u8, c: u8, d: u8) -> u64
     ensures { λ r. ⌜ (r ≡ bigEndian (a ∷ b ∷ c ∷ d ∷ [])) × (r < 2 ^ 32) ⌝ }
 {
     ((wide(a) * 256 + wide(b)) * 256 + wide(c)) * 256 + wide(d)

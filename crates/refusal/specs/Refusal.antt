@@ -30,6 +30,10 @@ zeroDivisor = 4
 abbrev pub badAnswer : ℕ
 badAnswer = 5
 
+-- a mesh file is not as published
+abbrev pub badFile : ℕ
+badFile = 8
+
 -- a row of the ladder: the number to give where the test holds
 abbrev pub Row : Type 0
 Row = Bool × ℕ

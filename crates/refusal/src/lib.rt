@@ -17,6 +17,8 @@ pub const BAD_INPUT: u32 = 3;
 pub const ZERO_DIVISOR: u32 = 4;
 // The finished answer has a NaN or an infinity in it.
 pub const BAD_ANSWER: u32 = 5;
+// A mesh file is not as published.
+pub const BAD_FILE: u32 = 8;
 
 // The most vertices of a panel or a skin (01-scope 2.3, 2.5).
 pub const MAX_VERTICES: usize = 65_536;
