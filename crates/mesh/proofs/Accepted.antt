@@ -1,0 +1,76 @@
+-- A file is accepted exactly if it is a valid content written out, and its blocks lie where the reader says. Cut short it is refused at its length, and where it goes on, there.
+use mathlib.Core.Path.{_≡_, refl, sym, _∙_, ap}
+use mathlib.Core.Bool.{true}
+use mathlib.Core.List.{List, [], _∷_, _++_, append-assoc, append-nil}
+use Prim.Native.Nat.{ℕ, _+_, _*_, _<_}
+use native.Mathlib.Nat.{zero-add}
+use native.Mathlib.Omega.{arith}
+use lib.ListN.{length, take, drop, length-drop, take-append-drop}
+use lib.Seq.{take-at, length-take-le, drop-append-seam}
+use Rattle.mesh.specs.Items.{end}
+use Rattle.mesh.specs.Mesh.{meshOf}
+use Rattle.mesh.specs.Blocks.{pointsIn, cellsIn}
+use Rattle.mesh.specs.Writer.{Content, Valid, fitIn, beforePoints, pointsBlock, beforeCells, cellsBlock, beforeTypes, typesBlock, encode}
+use Rattle.mesh.specs.declared.Step.the-variants.{Bad}
+use Rattle.mesh.specs.declared.Mesh.the-variants.{Read, Refused}
+use Rattle.mesh.proofs.Sequence.{after-next, after-bad, passes}
+use Rattle.mesh.proofs.FileParts.{File, points-from, head-part, cells-part, types-part, fives-part, fileFrom, file-part}
+use Rattle.mesh.proofs.Steps.{steps, read-on, endAt, refused}
+use Rattle.mesh.proofs.Contents.{from-points, from-cells, from-types, points-size, cells-size, types-size, file-right, file-steps, from-right}
+
+pub written-is-read : (c : Content) → Valid c → meshOf (encode c) ≡ Read (c .n) (c .m) (length (beforePoints c)) (length (beforeCells c)) (length (beforeTypes c))
+written-is-read c valid = read-on (encode c) _ _ _ _ _ (file-steps c valid)
+
+joined : (f a b c d x y z rest : List ℕ) → f ≡ a ++ x → x ≡ b ++ y → y ≡ c ++ z → z ≡ d ++ rest → rest ≡ [] → f ≡ a ++ (b ++ (c ++ d))
+joined f a b c d x y z rest e1 e2 e3 e4 none = rw (e1, e2, e3, e4, none, append-nil)
+
+pub read-is-written : (f : List ℕ) → fitIn 1 f ≡ true → (n m points cells types : ℕ) → meshOf f ≡ Read n m points cells types
+    → (c : Content) × Valid c × (f ≡ encode c) × (c .n ≡ n) × (c .m ≡ m)
+read-is-written f bytes n m points cells types e =
+    let s = steps f n m points cells types e in
+    let (w0, head, d0, _) = head-part f .taken 0 n points (sym (points-from f) ∙ s .to-points) in
+    let (w1, block1, d1, _) = cells-part f n .taken points m cells (s .to-cells) in
+    let (w2, block2, d2, _) = types-part f n m .taken cells (s .v) types (s .to-types) in
+    let (w3, block3, d3, _) = fives-part f m .taken types (s .x) (s .last) (s .to-last) in
+    let text = joined f w0 w1 w2 w3 _ _ _ _ d0 d1 d2 d3 (s .no-more) in
+    let (c, valid, written, same-n, same-m) = from-right n m (s .v) (s .x) w0 w1 w2 w3 (rw text at bytes) head block1 block2 block3 in
+    (c, valid, text ∙ written, same-n, same-m)
+
+-- every beginning of a right file is refused at its own length
+pub cut-short : (c : Content) → Valid c → (k : ℕ) → k < length (encode c) → meshOf (take k (encode c)) ≡ Refused k
+cut-short c valid k h =
+    let f = take k (encode c) in
+    let rest = drop k (encode c) in
+    let place : 0 + length f ≡ k = zero-add (length f) ∙ length-take-le k (encode c) (omega arith) in
+    let more : 0 < length rest = rw length-drop (omega arith) in
+    let right : File 0 (f ++ rest) = rw (take-append-drop k (encode c)) (file-right c valid) in
+    refused f k (after-bad (fileFrom f 0) (endAt f) k (file-part f .cut 0 0 f rest right more refl ∙ ap Bad place))
+
+-- and one that goes on, at the first byte too many
+pub too-long : (c : Content) → Valid c → (b : ℕ) (rest : List ℕ) → meshOf (encode c ++ b ∷ rest) ≡ Refused (length (encode c))
+unfolding end
+too-long c valid b rest =
+    let f = encode c ++ b ∷ rest in
+    let place = length (encode c) in
+    let taken = passes f (file-part f) [] (encode c) (b ∷ rest) (encode c) 0 (file-right c valid) refl refl in
+    refused f place (after-next (fileFrom f 0) (endAt f) 0 place taken ∙ rw (drop-append-seam (encode c) (b ∷ rest)))
+
+block-there : (f a block rest : List ℕ) (k : ℕ) → f ≡ a ++ (block ++ rest) → length block ≡ k → take k (drop (length a) f) ≡ block
+block-there f a block rest k e l = rw (e, drop-append-seam a (block ++ rest)) (take-at block rest k l)
+
+pub blocks-written : (c : Content) → Valid c
+    → (take (24 * c .n) (drop (length (beforePoints c)) (encode c)) ≡ pointsBlock c) × (take (16 * c .m) (drop (length (beforeCells c)) (encode c)) ≡ cellsBlock c)
+    × (take (4 * c .m) (drop (length (beforeTypes c)) (encode c)) ≡ typesBlock c)
+blocks-written c valid = (
+  block-there (encode c) (beforePoints c) (pointsBlock c) _ (24 * c .n) (simp append-assoc at (from-points c)) (points-size c valid),
+  block-there (encode c) (beforeCells c) (cellsBlock c) _ (16 * c .m) (simp append-assoc at (from-cells c)) (omega (arith, cells-size c valid)),
+  block-there (encode c) (beforeTypes c) (typesBlock c) _ (4 * c .m) (from-types c) (types-size c valid),
+)
+
+pub points-written : (c : Content) → Valid c → pointsIn (encode c) (meshOf (encode c)) ≡ pointsBlock c
+unfolding pointsIn
+points-written c valid = rw (written-is-read c valid) (blocks-written c valid .0)
+
+pub cells-written : (c : Content) → Valid c → cellsIn (encode c) (meshOf (encode c)) ≡ cellsBlock c
+unfolding cellsIn
+cells-written c valid = rw (written-is-read c valid) (blocks-written c valid .1)
