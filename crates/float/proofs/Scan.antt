@@ -1,7 +1,7 @@
 -- A loop that tests a list from the front, to its end, keeps this: what was seen so far and what is left from here pass exactly when the whole list does.
 use mathlib.Core.Path.{_≡_, refl, sym, _∙_}
 use mathlib.Core.Bool.{Bool, true, false, _&&_, _||_, false≢true, true≢false, and-assoc, and-true}
-use mathlib.Core.List.{List, [], _∷_}
+use mathlib.Core.List.{List, [], _∷_, _++_}
 use mathlib.Core.Logic.{_↔_}
 use Prim.Native.Nat.{ℕ, zero, suc, _+_, _≤_, _<_}
 use native.Mathlib.Nat.{not-suc-le-zero, le-of-suc-le-suc}
@@ -53,6 +53,15 @@ module _ {A : Type 0} (p : A → Bool) where
   unfolding every
   every-same zero x e = refl
   every-same (suc n) x e = rw e (every-same n x e)
+
+  -- a test of a list is one of its two parts
+  every-append : (xs ys : List A) → every p (xs ++ ys) ≡ (every p xs && every p ys)
+  unfolding every
+  every-append [] ys = refl
+  every-append (x ∷ xs) ys = rw (every-append xs ys, and-assoc)
+
+  pub every-parts : (xs ys : List A) → every p (xs ++ ys) ≡ true → (every p xs ≡ true) × (every p ys ≡ true)
+  every-parts xs ys e = both _ _ (sym (every-append xs ys) ∙ e)
 
   -- a test over a list says it of each element
   pub every-iff : (l : List A) (d : A) → every p l ≡ true ↔ ((k : ℕ) → k < length l → p (getD l k d) ≡ true)

@@ -1,27 +1,19 @@
 -- A number and its bytes are inverse: the last byte is the remainder by 256, and the bytes before it are the quotient's. So are a block's numbers and its bytes, one by one.
 use mathlib.Core.Path.{_≡_, refl, sym, _∙_, ap}
-use mathlib.Core.Bool.{Bool, true, _&&_, and-assoc}
+use mathlib.Core.Bool.{true}
 use mathlib.Core.List.{List, [], _∷_, _++_, append-assoc, append-nil}
 use Prim.Native.Nat.{ℕ, zero, suc, _+_, _*_, _/_, _%_, _^_, _≤_, _<_}
 use native.Mathlib.Nat.{add-zero, zero-add, mul-le-mul-right, pow-succ'}
 use native.Mathlib.Omega.{arith}
-use lib.ListN.{length, take, drop, length-append, length-drop, take-append-drop}
-use lib.Seq.{length-take-le, take-all, take-at, drop-at, take-add}
+use lib.ListN.{length, getD, take, drop, length-append, length-drop, take-append-drop}
+use lib.Seq.{length-take-le, take-all, take-at, drop-at, take-add, drop-drop, take-append-le, drop-append-le}
 use borrow.Author.Tests.{lt-ltb, ltb-true}
 use Rattle.float.specs.Lists.{every, fold}
 use Rattle.float.specs.Numbers.{bigEndian}
 use Rattle.float.proofs.Fold.{fold-append}
-use Rattle.float.proofs.Scan.{both}
+use Rattle.float.proofs.Scan.{both, every-parts}
+use Rattle.mesh.specs.Rules.{numberAt}
 use Rattle.mesh.specs.Writer.{fitIn, bytes, spell}
-
--- a test of a list is one of its two parts
-every-append : {A : Type 0} (p : A → Bool) (xs ys : List A) → every p (xs ++ ys) ≡ (every p xs && every p ys)
-unfolding every
-every-append p [] ys = refl
-every-append p (x ∷ xs) ys = rw (every-append p xs ys, and-assoc)
-
-pub every-parts : {A : Type 0} (p : A → Bool) (xs ys : List A) → every p (xs ++ ys) ≡ true → (every p xs ≡ true) × (every p ys ≡ true)
-every-parts p xs ys e = both _ _ (sym (every-append p xs ys) ∙ e)
 
 pub bytes-length : (w x : ℕ) → length (bytes w x) ≡ w
 unfolding bytes
@@ -67,6 +59,10 @@ number-below : (xs : List ℕ) → fitIn 1 xs ≡ true → bigEndian xs < 256 ^ 
 unfolding bigEndian
 number-below xs e = omega (arith, below-after 0 xs e)
 
+-- a number that is there stays the same, whatever follows
+pub number-stays : (w i : ℕ) (t rest : List ℕ) → w * (i + 1) ≤ length t → numberAt w i (t ++ rest) ≡ numberAt w i t
+number-stays w i t rest h = rw (drop-append-le (w * i) t rest (omega arith), take-append-le w (drop (w * i) t) rest (rw length-drop (omega arith)))
+
 -- the first k numbers of s, w bytes each
 unfoldable pub decode : (w k : ℕ) (s : List ℕ) → List ℕ
 decode w zero s = []
@@ -76,6 +72,14 @@ pub decode-length : (w k : ℕ) (s : List ℕ) → length (decode w k s) ≡ k
 unfolding decode
 decode-length w zero s = refl
 decode-length w (suc k) s = ap suc (decode-length w k (drop w s))
+
+pub decode-at : (w k : ℕ) (s : List ℕ) (i : ℕ) → i < k → getD (decode w k s) i 0 ≡ numberAt w i s
+unfolding decode
+decode-at w zero s i h = absurd (omega arith)
+decode-at w (suc k) s zero h = let here : w * 0 ≡ 0 = omega arith in rw here
+decode-at w (suc k) s (suc i) h =
+    let past : w * suc i ≡ w + w * i = omega arith in
+    decode-at w k (drop w s) i (omega arith) ∙ rw (past, drop-drop (w * i) w s)
 
 pub spell-length : (w : ℕ) (xs : List ℕ) → length (spell w xs) ≡ w * length xs
 unfolding spell
@@ -125,3 +129,7 @@ decode-block w k xs l e = rw (← l, ← append-nil (spell w xs)) (decode-spell 
 
 pub spell-block : (w k : ℕ) (s : List ℕ) → fitIn 1 s ≡ true → length s ≡ w * k → s ≡ spell w (decode w k s)
 spell-block w k s fits l = sym (spell-decode w k s fits (omega arith) ∙ take-all (w * k) s (omega arith))
+
+-- number i of a block stands i numbers on
+pub spelled-at : (w : ℕ) (xs : List ℕ) (i : ℕ) → fitIn w xs ≡ true → i < length xs → numberAt w i (spell w xs) ≡ getD xs i 0
+spelled-at w xs i fits h = sym (decode-at w (length xs) (spell w xs) i h) ∙ ap (λ (l : List ℕ). getD l i 0) (decode-block w (length xs) xs refl fits)

@@ -2,33 +2,16 @@
 use mathlib.Core.Path.{_≡_, refl, sym, _∙_, ap}
 use mathlib.Core.List.{List, _++_, append-assoc}
 use mathlib.Core.Logic.{_↔_, inl, inr}
-use Prim.Native.Nat.{ℕ, _+_, _-_, _≤_, _<_}
+use Prim.Native.Nat.{ℕ, _+_, _<_}
 use native.Mathlib.Omega.{arith}
-use lib.ListN.{length, drop, length-append, length-drop}
+use lib.ListN.{length, drop, length-append}
 use lib.Seq.{drop-drop, drop-append-seam}
 use Rattle.mesh.specs.Items.{after}
 use Rattle.mesh.specs.declared.Step.{Step}
 use Rattle.mesh.specs.declared.Step.the-variants.{Next, Bad}
-use Rattle.mesh.proofs.Item.{Item}
-use Rattle.mesh.proofs.Blocks.{never}
-use Rattle.mesh.proofs.Counts.{Cuts, cuts}
-
-pub after-next : (s : Step) (more : ℕ → ℕ → Step) (v a : ℕ) → s ≡ Next v a → after s more ≡ more v a
-unfolding after
-after-next s more v a e = rw e
-
-pub after-bad : (s : Step) (more : ℕ → ℕ → Step) (place : ℕ) → s ≡ Bad place → after s more ≡ Bad place
-unfolding after
-after-bad s more place e = rw e
-
-pub after-taken : (s : Step) (more : ℕ → ℕ → Step) (x b : ℕ) → after s more ≡ Next x b → (v : ℕ) × (a : ℕ) × (s ≡ Next v a) × (more v a ≡ Next x b)
-unfolding after
-after-taken (Next v a) more x b e = (v, a, refl, e)
-after-taken (Bad place) more x b e = never e
-
--- which texts w are right, and their values v
-abbrev pub Texts : Type 1
-Texts = (v : ℕ) (w : List ℕ) → Type 0
+use Rattle.mesh.proofs.Item.{Texts, Item}
+use Rattle.mesh.proofs.Cuts.{Cuts, cuts}
+use Rattle.mesh.proofs.After.{after-next, after-bad, after-taken}
 
 -- a text that is right for a first part, and then one that is right for a second
 infixr 20 _▷_
@@ -104,9 +87,3 @@ module _ (f : List ℕ) where
     passes a w rest b v r e upto =
         let there : drop (length a) f ≡ w ++ rest = rw e (drop-append-seam a (w ++ rest)) in
         part .whole (length a) v w rest r there ∙ rw (upto, length-append)
-
-    pub stays-within : (at v a : ℕ) → at ≤ length f → p at ≡ Next v a → a ≤ length f
-    stays-within at v a h e =
-        let (w, _, d, place) = part .taken at v a e in
-        let left : length f - at ≡ length w + (length f - a) = simp (length-append, length-drop) at (ap length d) in
-        omega arith

@@ -1,6 +1,6 @@
 pub mod Text
 pub mod Items
 pub mod Mesh
-pub mod Lines
+pub mod Rules
 pub mod Blocks
 pub mod Writer

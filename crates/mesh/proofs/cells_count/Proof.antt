@@ -4,8 +4,8 @@ use denote.Ref.{now}
 use borrow.Author.Needs.{needs}
 use Rattle.refusal.specs.Panel.{maxTriangles}
 use Rattle.mesh.specs.Text.{cellsLine}
-use Rattle.mesh.proofs.Turns.{counted-over, counted-line}
-use Rattle.mesh.proofs.Making.{fits, cells-short}
+use Rattle.mesh.proofs.Scans.{counted-over, counted-line}
+use Rattle.mesh.proofs.MakingLines.{fits, cells-short}
 use Rattle.mesh.proofs.cells_count.Statement.{statement}
 use Rattle.mesh.proofs.cells_count.Tie as tie
 

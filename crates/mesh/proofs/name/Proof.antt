@@ -3,7 +3,7 @@ use mathlib.Core.Path.{_∙_}
 use mathlib.Core.Logic.{inl, inr}
 use native.Mathlib.Omega.{arith}
 use borrow.Author.Needs.{needs}
-use Rattle.mesh.proofs.Parts.{name-there, name-outside}
+use Rattle.mesh.proofs.HandedBack.{name-there, name-outside}
 use Rattle.mesh.proofs.name.Statement.{statement}
 use Rattle.mesh.proofs.name.Tie as tie
 

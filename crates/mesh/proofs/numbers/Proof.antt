@@ -1,13 +1,13 @@
 -- `numbers` meets its contract: at each turn, the numbers that are left, read from here on, answer what all of them do from `at`.
-use mathlib.Core.Path.{_≡_, refl, sym, _∙_, ap}
-use Prim.Native.Nat.{ℕ, _-_, _≤_}
+use mathlib.Core.Path.{_≡_, sym, _∙_, ap}
+use Prim.Native.Nat.{_-_, _≤_}
 use native.Mathlib.Omega.{arith}
 use lib.ListN.{length, drop}
 use denote.Ref.{now}
 use borrow.Author.Needs.{needs}
 use borrow.Author.Tests.{not-true, not-false}
 use Rattle.mesh.specs.Items.{right, numbers}
-use Rattle.mesh.proofs.Turns.{numbers-done, numbers-ended, numbers-wrong, numbers-more}
+use Rattle.mesh.proofs.Scans.{numbers-done, numbers-ended, numbers-wrong, numbers-more}
 use Rattle.mesh.proofs.numbers.Statement.{statement}
 use Rattle.mesh.proofs.numbers.Tie as tie
 

@@ -4,8 +4,8 @@ use denote.Ref.{now}
 use borrow.Author.Needs.{needs}
 use Rattle.refusal.specs.Panel.{maxVertices}
 use Rattle.mesh.specs.Text.{pointsLine}
-use Rattle.mesh.proofs.Turns.{counted-over, counted-line}
-use Rattle.mesh.proofs.Making.{fits, points-short}
+use Rattle.mesh.proofs.Scans.{counted-over, counted-line}
+use Rattle.mesh.proofs.MakingLines.{fits, points-short}
 use Rattle.mesh.proofs.points_count.Statement.{statement}
 use Rattle.mesh.proofs.points_count.Tie as tie
 

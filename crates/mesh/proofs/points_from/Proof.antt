@@ -1,12 +1,11 @@
 -- `points_from` meets its contract: the items are looked for in the definition's order.
 use mathlib.Core.Path.{sym, _∙_}
 use native.Mathlib.Omega.{arith}
-use denote.Ref.{now}
 use borrow.Author.Needs.{needs}
 use Rattle.mesh.specs.Text.{datasetLine}
 use Rattle.mesh.specs.Mesh.{pointsFrom}
 use Rattle.mesh.proofs.After.{stop, go-on}
-use Rattle.mesh.proofs.Within.{line-within}
+use Rattle.mesh.proofs.Bounds.{line-within}
 use Rattle.mesh.proofs.points_from.Statement.{statement}
 use Rattle.mesh.proofs.points_from.Tie as tie
 

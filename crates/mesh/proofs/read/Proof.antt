@@ -1,10 +1,9 @@
 -- `read` meets its contract: the file's parts are taken in the definition's order, up to the first that is refused.
 use mathlib.Core.Path.{refl, sym, _∙_}
-use denote.Ref.{now}
 use borrow.Author.Needs.{needs}
 use Rattle.mesh.specs.Mesh.{meshOf}
 use Rattle.mesh.proofs.After.{refused, then}
-use Rattle.mesh.proofs.Known.{points-known, cells-known, types-known}
+use Rattle.mesh.proofs.Bounds.{points-known, cells-known, types-known}
 use Rattle.mesh.proofs.read.Statement.{statement}
 use Rattle.mesh.proofs.read.Tie as tie
 

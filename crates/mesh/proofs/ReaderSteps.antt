@@ -1,28 +1,16 @@
 -- The reader's answer, step by step: a file is read where each of four parts is taken and nothing is left, and is refused where the first of them stops that does.
-use mathlib.Core.Path.{_≡_, refl, ap}
+use mathlib.Core.Path.{_≡_, refl}
 use mathlib.Core.List.{List, [], _∷_}
 use Prim.Native.Nat.{ℕ}
-use native.Mathlib.Omega.{arith}
 use lib.ListN.{drop}
 use Rattle.mesh.specs.Items.{end, after}
 use Rattle.mesh.specs.Mesh.{answer, pointsFrom, cellsFrom, typesFrom, endFrom, meshOf}
 use Rattle.mesh.specs.declared.Step.{Step}
 use Rattle.mesh.specs.declared.Step.the-variants.{Next, Bad}
-use Rattle.mesh.specs.declared.Mesh.{Mesh}
 use Rattle.mesh.specs.declared.Mesh.the-variants.{Read, Refused}
-use Rattle.mesh.proofs.Blocks.{never}
-use Rattle.mesh.proofs.Sequence.{after-taken}
-use Rattle.mesh.proofs.FileParts.{headFrom, points-from, fivesFrom, fileFrom}
-
-answer-taken : (s : Step) (more : ℕ → ℕ → Mesh) (n m points cells types : ℕ) → answer s more ≡ Read n m points cells types
-    → (v : ℕ) × (a : ℕ) × (s ≡ Next v a) × (more v a ≡ Read n m points cells types)
-unfolding answer
-answer-taken (Next v a) more n m points cells types e = (v, a, refl, e)
-answer-taken (Bad place) more n m points cells types e = let z : _≡_ {A = ℕ} 0 1 = cc in absurd (omega arith)
-
-answer-bad : (s : Step) (more : ℕ → ℕ → Mesh) (place : ℕ) → s ≡ Bad place → answer s more ≡ Refused place
-unfolding answer
-answer-bad s more place e = rw e
+use Rattle.mesh.proofs.Item.{never}
+use Rattle.mesh.proofs.After.{after-taken, answer-bad, answer-taken, answer-refused}
+use Rattle.mesh.proofs.ReaderParts.{headFrom, points-from, fivesFrom, fileFrom}
 
 end-taken : (at v a : ℕ) (s : List ℕ) → end at s ≡ Next v a → s ≡ []
 unfolding end
@@ -64,15 +52,9 @@ module _ (f : List ℕ) where
   abbrev pub endAt : (v at : ℕ) → Step
   endAt v at = end at (drop at f)
 
-  module _ (place : ℕ) where
-    stop : (s : Step) (more : ℕ → ℕ → Step) (answers : ℕ → ℕ → Mesh) → ((v a : ℕ) → after (more v a) endAt ≡ Bad place → answers v a ≡ Refused place)
-        → after (after s more) endAt ≡ Bad place → answer s answers ≡ Refused place
-    unfolding after answer
-    stop (Next v a) more answers h e = h v a e
-    stop (Bad q) more answers h e = ap Refused (cc)
-
-    pub refused : after (fileFrom f 0) endAt ≡ Bad place → meshOf f ≡ Refused place
-    unfolding meshOf endFrom
-    refused e =
-        rw (points-from f)
-        (stop (headFrom f 0) _ _ (λ n a. stop (cellsFrom f n a) _ _ (λ m b. stop (typesFrom f n m b) _ _ (λ _ c. answer-bad (endFrom f m c) _ place))) e)
+  pub refused-at : (place : ℕ) → after (fileFrom f 0) endAt ≡ Bad place → meshOf f ≡ Refused place
+  unfolding meshOf endFrom
+  refused-at place e =
+      rw (points-from f)
+      (answer-refused place (headFrom f 0) _ endAt _ (λ n a. answer-refused place (cellsFrom f n a) _ endAt _
+      (λ m b. answer-refused place (typesFrom f n m b) _ endAt _ (λ _ c. answer-bad (endFrom f m c) _ place))) e)

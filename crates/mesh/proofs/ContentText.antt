@@ -7,13 +7,14 @@ use native.Mathlib.Omega.{arith}
 use lib.Dec.{ltb}
 use lib.ListN.{length, replicate, length-replicate}
 use lib.Seq.{drop-length}
+use Rattle.float.proofs.Scan.{every-parts}
 use Rattle.mesh.specs.Text.{newline, versionLine, binaryLine, datasetLine, pointsLine, cellsLine, typesLine}
 use Rattle.mesh.specs.Writer.{Content, Valid, fitIn, spell, cellNumbers, beforePoints, pointsBlock, beforeCells, cellsBlock, beforeTypes, typesBlock, encode}
-use Rattle.mesh.proofs.Bytes.{decode, decode-length, decode-fits, decode-block, spell-length, spell-block, every-parts}
-use Rattle.mesh.proofs.Blocks.{cells-exactly, cell-numbers-length, cells-fit, types-exactly, types-fit}
+use Rattle.mesh.proofs.Bytes.{decode, decode-length, decode-fits, decode-block, spell-length, spell-block}
+use Rattle.mesh.proofs.CellsAndTypes.{cells-exactly, cell-numbers-length, cells-fit, types-exactly, types-fit}
 use Rattle.mesh.proofs.Sequence.{passes}
-use Rattle.mesh.proofs.FileParts.{Head, Points, Cells, Types, File, points-from, head-part, cells-part, types-part, fives-part}
-use Rattle.mesh.proofs.Steps.{Steps}
+use Rattle.mesh.proofs.ReaderParts.{Head, Points, Cells, Types, File, points-from, head-part, cells-part, types-part, fives-part}
+use Rattle.mesh.proofs.ReaderSteps.{Steps}
 
 module _ (c : Content) where
   -- from each block up to the next
@@ -49,8 +50,18 @@ module _ (c : Content) where
     pub points-size : length (pointsBlock c) ≡ 24 * c .n
     points-size = spell-length 8 (c .points) ∙ omega (arith, valid .three-coordinates)
 
-    four-numbers : length (cellNumbers (c .triangles)) ≡ 4 * c .m
+    pub four-numbers : length (cellNumbers (c .triangles)) ≡ 4 * c .m
     four-numbers = cell-numbers-length (c .m) (c .triangles) (valid .three-names)
+
+    pub numbers-fit : fitIn 4 (cellNumbers (c .triangles)) ≡ true
+    numbers-fit = cells-fit (c .n) (c .m) (c .triangles) (valid .few-points) (valid .three-names) (valid .named)
+
+    -- the numbers that the blocks spell
+    pub points-read : decode 8 (3 * c .n) (pointsBlock c) ≡ c .points
+    points-read = decode-block 8 (3 * c .n) (c .points) (valid .three-coordinates) (valid .patterns)
+
+    pub numbers-read : decode 4 (4 * c .m) (cellsBlock c) ≡ cellNumbers (c .triangles)
+    numbers-read = decode-block 4 (4 * c .m) (cellNumbers (c .triangles)) four-numbers numbers-fit
 
     pub cells-size : length (cellsBlock c) ≡ 4 * (4 * c .m)
     cells-size = spell-length 4 (cellNumbers (c .triangles)) ∙ omega (arith, four-numbers)
@@ -67,10 +78,8 @@ module _ (c : Content) where
 
     cells-right : Cells (c .n) (c .m) 0 cellsText
     cells-right =
-        let fit = cells-fit (c .n) (c .m) (c .triangles) (valid .few-points) (valid .three-names) (valid .named) in
-        let numbers = decode-block 4 (4 * c .m) (cellNumbers (c .triangles)) four-numbers fit in
         let right = cells-exactly (c .n) (c .m) (cellNumbers (c .triangles)) four-numbers .1 (c .triangles, valid .three-names, valid .named, refl) in
-        (cellsBlock c, typesLine (c .m), (cells-size, rw numbers right), (refl, refl), refl)
+        (cellsBlock c, typesLine (c .m), (cells-size, rw numbers-read right), (refl, refl), refl)
 
     types-right : Types (c .m) 0 typesText
     types-right =
@@ -120,7 +129,7 @@ title-fits n t e =
 
 pub from-right : (n m v x : ℕ) (head points cells types : List ℕ) → fitIn 1 (head ++ (points ++ (cells ++ types))) ≡ true
     → Head n head → Points n m points → Cells n m v cells → Types m x types
-    → (c : Content) × Valid c × (head ++ (points ++ (cells ++ types)) ≡ encode c) × (c .n ≡ n) × (c .m ≡ m)
+    → (c : Content) × Valid c × (head ++ (points ++ (cells ++ types)) ≡ encode c)
 from-right n m v x head points cells types bytes (few, t, plain, short, e0)
     (b1, y1, size1, (few-cells, l1), s1) (b2, y2, (size2, right2), (_, l2), s2) (_, b3, (size3, right3), s3) =
     let (head-bytes, after-head) = fits-both head _ bytes in
@@ -146,4 +155,4 @@ from-right n m v x head points cells types bytes (few, t, plain, short, e0)
     let block1 = spell-block 8 (3 * n) b1 fits1 (omega arith) in
     let block2 = spell-block 4 (4 * m) b2 fits2 size2 ∙ ap (spell 4) e2 in
     let block3 = spell-block 4 m b3 fits3 size3 ∙ ap (spell 4) e3 in
-    (c, valid, same-text c head points cells types b1 y1 b2 y2 b3 e0 s1 block1 l1 s2 block2 l2 s3 block3, refl, refl)
+    (c, valid, same-text c head points cells types b1 y1 b2 y2 b3 e0 s1 block1 l1 s2 block2 l2 s3 block3)

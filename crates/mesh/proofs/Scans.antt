@@ -1,19 +1,21 @@
--- One turn of each scan: what is left from `here` on answers what the whole does, until the scan ends.
-use mathlib.Core.Path.{_≡_, refl, sym, _∙_, ap}
-use mathlib.Core.Bool.{Bool, true, false, cond}
-use mathlib.Core.List.{List, [], _∷_}
-use Prim.Native.Nat.{ℕ, zero, suc, _+_, _-_, _*_, _≤_, _<_}
-use native.Mathlib.Numerals.{add-one, add-two, add-three}
+-- What the code of each item finds at `here`, turn by turn: what is left from there on answers what the whole does, until the scan ends.
+use mathlib.Core.Path.{_≡_, sym, _∙_, ap}
+use mathlib.Core.Bool.{true, false}
+use mathlib.Core.List.{List}
+use Prim.Native.Nat.{ℕ, suc, _+_, _-_, _*_, _≤_, _<_}
+use native.Mathlib.Numerals.{add-one}
 use native.Mathlib.Omega.{arith}
-use lib.Dec.{leb, ltb, eqb}
 use lib.ListN.{length, getD, drop, take, drop-of-length-le, length-drop}
 use lib.Seq.{drop-cons, drop-drop}
-use borrow.Author.Tests.{eq-eqb, ne-eqb, lt-ltb, le-ltb, le-leb, lt-leb}
+use borrow.Author.Tests.{eq-eqb, ne-eqb, le-leb, lt-leb}
 use Rattle.float.specs.Numbers.{bigEndian}
 use Rattle.mesh.specs.Items.{same, line, titleIn, digits, counted, countedAs, block, right, numbers, end}
 use Rattle.mesh.specs.declared.Step.{Step}
 use Rattle.mesh.specs.declared.Step.the-variants.{Next, Bad}
 use Rattle.mesh.specs.declared.Rule.{Rule}
+use Rattle.mesh.proofs.Counts.{digits-six as six, digits-low as low, digits-high as high, digits-more as more}
+use Rattle.mesh.proofs.Blocks.{block-there, block-ended}
+use Rattle.mesh.proofs.BlockRule.{number-passed, number-wrong, number-cut}
 
 module _ (f : List ℕ) (here : ℕ) where
   -- the bytes w, from place i of it on
@@ -65,38 +67,29 @@ module _ (f : List ℕ) (here : ℕ) where
     digits-ended e = rw (drop-of-length-le f e)
 
     module _ (e : here < length f) where
+      abbrev c : ℕ
+      c = getD f here 0
+
       pub digits-six : 100000 ≤ n → digits n (drop here f) ≡ n
-      unfolding digits
-      digits-six h = rw (drop-cons f here 0 e, le-ltb _ _ h)
+      digits-six h = rw (drop-cons f here 0 e) (six n c _ h)
 
-      pub digits-low : getD f here 0 < 48 → digits n (drop here f) ≡ n
-      unfolding digits
-      digits-low h = rw (drop-cons f here 0 e, lt-leb _ _ h) (both (ltb n 100000))
-        where
-          both : (b : Bool) → cond b n n ≡ n
-          both true = refl
-          both false = refl
+      pub digits-low : c < 48 → digits n (drop here f) ≡ n
+      digits-low h = rw (drop-cons f here 0 e) (low n c _ h)
 
-      pub digits-high : 57 < getD f here 0 → digits n (drop here f) ≡ n
-      unfolding digits
-      digits-high h = rw (drop-cons f here 0 e, le-ltb _ _ h) (both (ltb n 100000) (leb 48 (getD f here 0)))
-        where
-          both : (b d : Bool) → cond b (cond d n n) n ≡ n
-          both true true = refl
-          both true false = refl
-          both false d = refl
+      pub digits-high : 57 < c → digits n (drop here f) ≡ n
+      digits-high h = rw (drop-cons f here 0 e) (high n c _ h)
 
-      pub digits-more : n < 100000 → 48 ≤ getD f here 0 → getD f here 0 ≤ 57 → digits (n * 10 + (getD f here 0 - 48)) (drop (here + 1) f) ≡ digits n (drop here f)
-      unfolding digits
-      digits-more h lo hi = let g : getD f here 0 < 58 = omega arith in rw (drop-cons f here 0 e, lt-ltb _ _ h, le-leb _ _ lo, lt-ltb _ _ g, add-one here)
+      pub digits-more : n < 100000 → 48 ≤ c → c ≤ 57 → digits (n * 10 + (c - 48)) (drop (here + 1) f) ≡ digits n (drop here f)
+      digits-more h l g = rw (drop-cons f here 0 e, add-one here) (sym (more n c _ h l (omega arith)))
+
+  to-the-end : here ≤ length f → here + length (drop here f) ≡ length f
+  to-the-end h = rw length-drop (omega arith)
 
   pub block-whole : (k : ℕ) → k ≤ length f - here → block k here (drop here f) ≡ Next 0 (here + k)
-  unfolding block
-  block-whole k h = rw (length-drop here f, le-leb _ _ h)
+  block-whole k h = block-there k here (drop here f) (rw length-drop h)
 
-  pub block-ended : (k : ℕ) → here ≤ length f → length f - here < k → block k here (drop here f) ≡ Bad (length f)
-  unfolding block
-  block-ended k g h = let e : here + (length f - here) ≡ length f = omega arith in rw (length-drop here f, lt-leb _ _ h, e)
+  pub block-short : (k : ℕ) → here ≤ length f → length f - here < k → block k here (drop here f) ≡ Bad (length f)
+  block-short k g h = block-ended k here (drop here f) (rw length-drop h) ∙ ap Bad (to-the-end g)
 
   -- numbers of w bytes, from number i on, of k in all
   module _ (rule : Rule) (w k i : ℕ) where
@@ -109,18 +102,16 @@ module _ (f : List ℕ) (here : ℕ) where
       next = omega arith
 
       pub numbers-ended : here ≤ length f → length f - here < w → numbers rule w (k - i) i here (drop here f) ≡ Bad (length f)
-      unfolding numbers
-      numbers-ended g e = let t : here + (length f - here) ≡ length f = omega arith in rw (next, length-drop here f, lt-leb _ _ e, t)
+      numbers-ended g e = rw next (number-cut rule w _ i here (drop here f) (rw length-drop e) ∙ ap Bad (to-the-end g))
 
       module _ (e : w ≤ length f - here) where
         pub numbers-wrong : right rule i (bigEndian (take w (drop here f))) ≡ false → numbers rule w (k - i) i here (drop here f) ≡ Bad here
-        unfolding numbers
-        numbers-wrong d = rw (next, length-drop here f, le-leb _ _ e, d)
+        numbers-wrong d = rw next (number-wrong rule w _ i here (drop here f) (rw length-drop e) d)
 
         pub numbers-more : right rule i (bigEndian (take w (drop here f))) ≡ true
             → numbers rule w (k - (i + 1)) (i + 1) (here + w) (drop (here + w) f) ≡ numbers rule w (k - i) i here (drop here f)
-        unfolding numbers
-        numbers-more d = sym (ap (λ (j : ℕ). numbers rule w j i here (drop here f)) next ∙ rw (length-drop here f, le-leb _ _ e, d, drop-drop w here f))
+        numbers-more d =
+            sym (ap (λ (j : ℕ). numbers rule w j i here (drop here f)) next ∙ number-passed rule w _ i here (drop here f) (rw length-drop e) d ∙ rw (drop-drop w here f))
 
   pub end-here : length f ≤ here → end here (drop here f) ≡ Next 0 here
   unfolding end
@@ -129,15 +120,6 @@ module _ (f : List ℕ) (here : ℕ) where
   pub end-more : here < length f → end here (drop here f) ≡ Bad here
   unfolding end
   end-more h = rw (drop-cons f here 0 h)
-
-  -- the bytes of a number, one by one
-  pub four : here + 4 ≤ length f → take 4 (drop here f) ≡ getD f here 0 ∷ getD f (here + 1) 0 ∷ getD f (here + 2) 0 ∷ getD f (here + 3) 0 ∷ []
-  four h =
-      let h0 : here < length f = omega arith in
-      let h1 : suc here < length f = omega arith in
-      let h2 : suc (suc here) < length f = omega arith in
-      let h3 : suc (suc (suc here)) < length f = omega arith in
-      rw (add-one, add-two, add-three, drop-cons f here 0 h0, drop-cons f (suc here) 0 h1, drop-cons f (suc (suc here)) 0 h2, drop-cons f (suc (suc (suc here))) 0 h3)
 
 -- a line with a count, of which the digits say n
 module _ (f : List ℕ) (at : ℕ) (text : ℕ → List ℕ) (word limit n : ℕ) (e : n ≡ digits 0 (drop (at + word) f)) where

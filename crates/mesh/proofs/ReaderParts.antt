@@ -9,13 +9,15 @@ use Rattle.float.specs.Lists.{every}
 use Rattle.refusal.specs.Panel.{maxVertices}
 use Rattle.mesh.specs.Text.{newline, versionLine, binaryLine, datasetLine, pointsLine, typesLine}
 use Rattle.mesh.specs.Items.{line, title, counted, numbers, after}
-use Rattle.mesh.specs.Lines.{RightLine, RightTitle, RightPoints, RightCells}
+use Rattle.mesh.specs.Rules.{RightLine, RightTitle, RightPoints, RightCells}
 use Rattle.mesh.specs.Mesh.{pointsFrom, closed, cellsFrom, typesFrom}
 use Rattle.mesh.specs.declared.Step.{Step}
 use Rattle.mesh.specs.declared.Rule.the-variants.{Cell, Five}
+use Rattle.mesh.proofs.Item.{Texts}
+use Rattle.mesh.proofs.Lines.{line-item, title-item}
+use Rattle.mesh.proofs.CountedLines.{points-item, cells-item}
 use Rattle.mesh.proofs.Blocks.{block-item, AreRight, numbers-item}
-use Rattle.mesh.proofs.Lines.{line-item, title-item, points-item, cells-item}
-use Rattle.mesh.proofs.Sequence.{Texts, _▷_, Part, of-item, in-sequence, said-as}
+use Rattle.mesh.proofs.Sequence.{_▷_, Part, of-item, in-sequence, said-as}
 
 -- the lines up to the points
 abbrev pub Head : Texts
@@ -41,10 +43,10 @@ abbrev pub Points : (n : ℕ) → Texts
 Points n = ClosedThen (λ b. length b ≡ 24 * n) RightCells
 
 abbrev pub Cells : (n m : ℕ) → Texts
-Cells n m = ClosedThen (AreRight (Cell n) 4 (4 * m) 0) (RightLine 0 (typesLine m))
+Cells n m = ClosedThen (AreRight (Cell n) 4 (4 * m)) (RightLine 0 (typesLine m))
 
 abbrev pub Types : (m : ℕ) → Texts
-Types m = Closed (AreRight Five 4 m 0)
+Types m = Closed (AreRight Five 4 m)
 
 abbrev pub File : Texts
 File = Head ▷ λ n. Points n ▷ λ m. Cells n m ▷ λ _. Types m
@@ -111,14 +113,14 @@ module _ (f : List ℕ) where
 
   pub types-part : (n m : ℕ) → Part f (Cells n m) (typesFrom f n m)
   unfolding typesFrom
-  types-part n m = then-line (of-item f (numbers-item (Cell n) 4 (4 * m) 0)) (of-line (typesLine m))
+  types-part n m = then-line (of-item f (numbers-item (Cell n) 4 (4 * m))) (of-line (typesLine m))
 
   -- `endFrom` without the end of the file
   abbrev pub fivesFrom : (m at : ℕ) → Step
   fivesFrom m at = closed f (numbers Five 4 m 0 at (drop at f))
 
   pub fives-part : (m : ℕ) → Part f (Types m) (fivesFrom m)
-  fives-part m = closed-part (of-item f (numbers-item Five 4 m 0))
+  fives-part m = closed-part (of-item f (numbers-item Five 4 m))
 
   -- all but the end of the file
   abbrev pub fileFrom : (at : ℕ) → Step
