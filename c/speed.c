@@ -1,4 +1,7 @@
-/* Calls an exported function many times, so that the instructions of one call can be counted as C sees it (docs/SPEED.md). Runs and lines are those of crates/speed. */
+/*
+ * Calls an exported function many times, so that the instructions of one call can be counted as C sees it (docs/SPEED.md). Runs and lines are those of crates/speed.
+ * `speed PATH CALLS` calls mesh_read on the file at PATH instead.
+ */
 #include "del_fem.h"
 #include <stdio.h>
 #include <stdlib.h>
@@ -137,8 +140,33 @@ static double skin(uint64_t count) {
     return sum;
 }
 
-int main(void) {
+/* Loads a mesh file and reads it so many times: the line is the number, the counts and the place, all 0 where it is only loaded. */
+static int mesh(const char *path, const char *times) {
+    FILE *in = fopen(path, "rb");
+    long len = in == NULL || fseek(in, 0, SEEK_END) != 0 ? -1 : ftell(in);
+    if (len < 0 || fseek(in, 0, SEEK_SET) != 0) {
+        return 1;
+    }
+    uint8_t *file = list((size_t)len, 1);
+    if (fread(file, 1, (size_t)len, in) != (size_t)len) {
+        return 1;
+    }
+    fclose(in);
+    uint32_t number = 0;
+    size_t n = 0, m = 0, place = 0;
+    for (unsigned long count = strtoul(times, NULL, 10); count > 0; count--) {
+        number = mesh_read(file, (size_t)len, &n, &m, &place);
+    }
+    printf("%lu %zu %zu %zu\n", (unsigned long)number, n, m, place);
+    free(file);
+    return 0;
+}
+
+int main(int words, char **word) {
     uint64_t kind, bits;
+    if (words == 3) {
+        return mesh(word[1], word[2]);
+    }
     while (next_word(&kind)) {
         uint64_t count = whole();
         double sum = kind == 6 ? panel(count) : kind == 7 ? skin(count) : kernel(kind, count);

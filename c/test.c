@@ -1,6 +1,10 @@
-/* Calls every exported function from C, on the starred examples of docs/01-scope.md 7 and on skins worked by hand, and looks at the raw bits of NaNs, which no statement sees. */
+/*
+ * Calls every exported function from C, on the starred examples of docs/01-scope.md 7, on skins worked by hand and on mesh files of meshes/files, and looks at the raw bits of the root's
+ * NaNs, which no statement sees. It is run at the root of the repository.
+ */
 #include "del_fem.h"
 #include <stdio.h>
+#include <stdlib.h>
 #include <string.h>
 
 static int passed, failed;
@@ -229,6 +233,108 @@ static void skins(void) {
     check("skin, a sum too large", refused(skin_of_four(PULLED, again, 18, huge), DEL_FEM_BAD_ANSWER, 6));
 }
 
+/* What the three calls over a file give, and the file. */
+struct mesh {
+    uint8_t file[512];
+    size_t len;
+    uint32_t read, points, cells;
+    size_t n, m, place, points_place, points_length, cells_place, cells_length;
+};
+
+/* The first len bytes of a file of meshes/files, all of them for a len that is longer. */
+static struct mesh mesh_of(const char *name, size_t len) {
+    struct mesh a;
+    char path[64];
+    memset(&a, 0x5a, sizeof a);
+    snprintf(path, sizeof path, "meshes/files/%s.vtk", name);
+    FILE *in = fopen(path, "rb");
+    if (in == NULL) {
+        fprintf(stderr, "%s cannot be opened\n", path);
+        exit(1);
+    }
+    a.len = fread(a.file, 1, len < sizeof a.file ? len : sizeof a.file, in);
+    fclose(in);
+    a.read = mesh_read(a.file, a.len, &a.n, &a.m, &a.place);
+    a.points = mesh_points(a.file, a.len, &a.points_place, &a.points_length);
+    a.cells = mesh_cells(a.file, a.len, &a.cells_place, &a.cells_length);
+    return a;
+}
+
+static const size_t WHOLE = SIZE_MAX;
+
+static int mesh_is(struct mesh a, size_t n, size_t m, size_t points, size_t cells) {
+    return a.read == DEL_FEM_ACCEPTED && a.n == n && a.m == m && a.place == 0
+        && a.points == DEL_FEM_ACCEPTED && a.points_place == points && a.points_length == 24 * n
+        && a.cells == DEL_FEM_ACCEPTED && a.cells_place == cells && a.cells_length == 16 * m;
+}
+
+static int mesh_refused(struct mesh a, size_t place) {
+    return a.read == DEL_FEM_BAD_FILE && a.n == 0 && a.m == 0 && a.place == place
+        && a.points == DEL_FEM_BAD_FILE && a.points_place == place && a.points_length == 0
+        && a.cells == DEL_FEM_BAD_FILE && a.cells_place == place && a.cells_length == 0;
+}
+
+static int no_coordinate(const uint8_t *points, size_t len, size_t point, size_t axis) {
+    double x = mesh_coordinate(points, len, point, axis);
+    return x != x;
+}
+
+static int no_name(const uint8_t *cells, size_t len, size_t triangle, size_t corner) {
+    return mesh_name(cells, len, triangle, corner) == DEL_FEM_NO_NAME;
+}
+
+/* Counts, places and where the blocks begin are those of the table in meshes/README.md; the square is that of the scope's examples. */
+static void meshes(void) {
+    const size_t names[6] = {0, 1, 2, 1, 3, 2};
+    const uint64_t far[9] = {NAN_BITS, 0x8000000000000000, 0x7FF0000000000000, 1, 0xFFF0000000000000, 0x7FEFFFFFFFFFFFFF, 0, bits(1), bits(2)};
+    const double both[12] = {12, 1, 1, 24, 2, 2, 24, 2, 2, 12, 1, 1};
+    struct mesh square = mesh_of("two", WHOLE), empty = mesh_of("empty", WHOLE), any = mesh_of("any_double", WHOLE);
+    check("mesh of VTK's square", mesh_is(square, 4, 2, 87, 194));
+    check("mesh of nothing", mesh_is(empty, 0, 0, 84, 95));
+    check("mesh of points alone", mesh_is(mesh_of("points_only", WHOLE), 4, 0, 85, 192));
+    check("mesh with any doubles", mesh_is(any, 3, 1, 87, 170));
+    check("mesh file of another version", mesh_refused(mesh_of("vtk_42", WHOLE), 0));
+    check("mesh file with a name 4", mesh_refused(mesh_of("name_4", WHOLE), 218));
+    check("mesh file with a byte too many", mesh_refused(mesh_of("byte_too_many", WHOLE), 249));
+    int cut = 1;
+    for (size_t k = 0; k < square.len; k++) {
+        cut = cut && mesh_refused(mesh_of("two", k), k);
+    }
+    check("mesh file cut after any of its 249 bytes", cut && square.len == 249);
+
+    const uint8_t *points = square.file + square.points_place, *cells = square.file + square.cells_place;
+    size_t tri2vtx[6];
+    double vtx2xy[8], mass[13];
+    int flat = 1, here = 1;
+    for (size_t i = 0; i < 4; i++) {
+        vtx2xy[2 * i] = mesh_coordinate(points, square.points_length, i, 0);
+        vtx2xy[2 * i + 1] = mesh_coordinate(points, square.points_length, i, 1);
+        flat = flat && bits(mesh_coordinate(points, square.points_length, i, 2)) == 0;
+    }
+    for (size_t i = 0; i < 6; i++) {
+        tri2vtx[i] = mesh_name(cells, square.cells_length, i / 3, i % 3);
+    }
+    check("coordinates of the square", memcmp(vtx2xy, XY, sizeof XY) == 0 && flat);
+    check("names of the square", memcmp(tri2vtx, names, sizeof names) == 0);
+    scribble(mass, 13);
+    check("masses, example 3, from a mesh file",
+        mitc_tri3_mass_lumped_plate_bending(tri2vtx, 6, vtx2xy, 8, 1, 2, mass, 12) == DEL_FEM_ACCEPTED && are(mass, both) && untouched(mass + 12, 1));
+    for (size_t i = 1; i < 9; i++) {
+        here = here && bits(mesh_coordinate(any.file + any.points_place, any.points_length, i / 3, i % 3)) == far[i];
+    }
+    check("coordinates keep their bits", here && no_coordinate(any.file + any.points_place, any.points_length, 0, 0));
+    check("no point 4 of 4", no_coordinate(points, 96, 4, 0));
+    check("no axis 3", no_coordinate(points, 96, 0, 3) && no_coordinate(points, 96, 0, SIZE_MAX));
+    check("no point where 24 times it is past the largest number", no_coordinate(points, 96, SIZE_MAX, 0) && no_coordinate(points, 96, SIZE_MAX / 24 + 1, 0));
+    check("no point where a byte of it is missing", no_coordinate(points, 95, 3, 0) && bits(mesh_coordinate(points, 95, 2, 1)) == bits(6));
+    check("no point in no bytes", no_coordinate(empty.file + empty.points_place, empty.points_length, 0, 0));
+    check("no triangle 2 of 2", no_name(cells, 32, 2, 0));
+    check("no corner 3", no_name(cells, 32, 0, 3) && no_name(cells, 32, 0, SIZE_MAX));
+    check("no triangle where 16 times it is past the largest number", no_name(cells, 32, SIZE_MAX, 0) && no_name(cells, 32, SIZE_MAX / 16 + 1, 0));
+    check("no triangle where a byte of it is missing", no_name(cells, 31, 1, 0) && mesh_name(cells, 31, 0, 2) == 2);
+    check("no triangle in no bytes", no_name(empty.file + empty.cells_place, empty.cells_length, 0, 0));
+}
+
 int main(void) {
     roots();
     bending();
@@ -237,6 +343,7 @@ int main(void) {
     plate();
     masses();
     skins();
+    meshes();
     printf("%d checks passed, %d failed\n", passed, failed);
     return failed != 0;
 }

@@ -7,7 +7,7 @@
  *
  * What the caller owes:
  *   - every pointer is aligned, is not null (not even for a list of no entries) and has as many entries behind it as is stated here;
- *   - what a function writes to (`values`, vtx2mass, vtx2dw, place, w) overlaps no other argument (the others may overlap each other);
+ *   - what a function writes to (`values`, vtx2mass, vtx2dw, place, w, n, m, length) overlaps no other argument (the others may overlap each other);
  *   - floating point is as a program starts with it: rounding to nearest, no exception unmasked (a kernel divides before it refuses), subnormal numbers not flushed to zero (a program that is
  *     linked with -ffast-math may flush them). Exception flags may be left raised.
  *
@@ -31,15 +31,19 @@ extern "C" {
 #define DEL_FEM_BAD_INPUT 3u    /* a number that the routine reads is a NaN or an infinity */
 #define DEL_FEM_ZERO_DIVISOR 4u /* a kernel's divisor is zero, of either sign */
 #define DEL_FEM_BAD_ANSWER 5u   /* the finished answer has a NaN or an infinity in it */
+#define DEL_FEM_BAD_FILE 8u     /* mesh files alone: the file is not as it has to be */
 
 /* How many numbers a kernel's `values` hold. */
 #define DEL_FEM_BENDING_VALUES 39 /* w 3, dwdp 36 */
 #define DEL_FEM_STRAIN_VALUES 30  /* w 3, dw 27 */
 #define DEL_FEM_ENERGY_VALUES 91  /* w 1, dw 9, ddw 81 */
 
-/* The largest panel, and the largest skin (01-scope 2.3, 2.5). */
+/* The largest panel, the largest skin (01-scope 2.3, 2.5) and the largest mesh of a file. */
 #define DEL_FEM_MAX_VERTICES 65536
 #define DEL_FEM_MAX_TRIANGLES 131072
+
+/* What mesh_name gives where there is no name: masses and skin refuse it. */
+#define DEL_FEM_NO_NAME ((size_t)0xFFFFFFFF)
 
 /*
  * IEEE 754's squareRoot, to nearest (01-scope 4). -0 gives -0; every NaN and everything below zero gives the NaN with the bits 0x7FF8000000000000. It refuses nothing.
@@ -103,6 +107,52 @@ uint32_t mitc_tri3_mass_lumped_plate_bending(const size_t *tri2vtx, size_t tri2v
  */
 uint32_t skin_wdw(const double *vtx2ini, size_t vtx2ini_len, const double *vtx2def, size_t vtx2def_len, const size_t *tri2vtx, size_t tri2vtx_len, double lambda,
     double myu, double *vtx2dw, size_t vtx2dw_len, size_t *place, double *w);
+
+/*
+ * Mesh files: triangles in binary legacy VTK, version 3.0. In this order, each line and each block with one newline (10) after it and nothing behind the last:
+ *   # vtk DataFile Version 3.0
+ *   a title: any bytes but a newline, 256 at most with it
+ *   BINARY
+ *   DATASET UNSTRUCTURED_GRID
+ *   POINTS n double
+ *   the points block: n points of three doubles, 24 bytes each; the values are not looked at
+ *   CELLS m 4m
+ *   the cells block: m cells of four 32-bit numbers, 16 bytes each: 3 and three vertices below n
+ *   CELL_TYPES m
+ *   the types block: m 32-bit numbers 5
+ * Numbers in blocks have their highest byte first. Counts are decimal without leading zeros, n at most DEL_FEM_MAX_VERTICES, m at most DEL_FEM_MAX_TRIANGLES; both may be 0.
+ *
+ * A file that is not so is refused at a place, counted in bytes from 0: that of the first thing in it that is wrong. It is the first byte of the line, or of the number in a block; the
+ * very byte where the newline after a block is missing, or where one follows the last newline; file_len where the file ends early, in a line that is right so far, or in a number, whatever
+ * its bytes are.
+ *
+ * file, points and cells are bytes, and each length counts them. What stands behind n, m, place and length is written by every call, whatever was in it. A file is read in one pass at
+ * each call of mesh_read, mesh_points and mesh_cells.
+ */
+
+/* Returns 0: n and m are the counts of points and triangles, place is 0. Or 8: n and m are 0, place is where the file is refused. */
+uint32_t mesh_read(const uint8_t *file, size_t file_len, size_t *n, size_t *m, size_t *place);
+
+/*
+ * Finds the points block, which stays where it is: nothing is copied.
+ * Returns 0: it begins at file + place and has length bytes, 24 n, all of them in the file. Or 8: place is where the file is refused, length is 0.
+ */
+uint32_t mesh_points(const uint8_t *file, size_t file_len, size_t *place, size_t *length);
+
+/* The same for the cells block, which has 16 m bytes. */
+uint32_t mesh_cells(const uint8_t *file, size_t file_len, size_t *place, size_t *length);
+
+/*
+ * Coordinate axis (0, 1, 2 for x, y, z) of a point, counted from 0, in a points block: file + place and length as mesh_points finds them. The sign of zero is kept.
+ * It is a NaN, which the other routines refuse, where the file has a NaN, where axis is above 2, and where the block has no such point; it refuses nothing itself.
+ */
+double mesh_coordinate(const uint8_t *points, size_t points_len, size_t point, size_t axis);
+
+/*
+ * The vertex that a triangle, counted from 0, names at a corner (0, 1, 2), in a cells block: file + place and length as mesh_cells finds them.
+ * It is DEL_FEM_NO_NAME where corner is above 2 and where the block has no such triangle.
+ */
+size_t mesh_name(const uint8_t *cells, size_t cells_len, size_t triangle, size_t corner);
 
 #ifdef __cplusplus
 }

@@ -3,6 +3,7 @@
 pub const BENDING_VALUES: usize = 39;
 pub const STRAIN_VALUES: usize = 30;
 pub const ENERGY_VALUES: usize = 91;
+pub const NO_NAME: usize = 0xffff_ffff;
 
 extern "C" {
     pub fn root_sqrt(x: f64) -> f64;
@@ -56,4 +57,25 @@ extern "C" {
         place: *mut usize,
         w: *mut f64,
     ) -> u32;
+    pub fn mesh_read(
+        file: *const u8,
+        file_len: usize,
+        n: *mut usize,
+        m: *mut usize,
+        place: *mut usize,
+    ) -> u32;
+    pub fn mesh_points(
+        file: *const u8,
+        file_len: usize,
+        place: *mut usize,
+        length: *mut usize,
+    ) -> u32;
+    pub fn mesh_cells(
+        file: *const u8,
+        file_len: usize,
+        place: *mut usize,
+        length: *mut usize,
+    ) -> u32;
+    pub fn mesh_coordinate(points: *const u8, points_len: usize, point: usize, axis: usize) -> f64;
+    pub fn mesh_name(cells: *const u8, cells_len: usize, triangle: usize, corner: usize) -> usize;
 }

@@ -1,9 +1,11 @@
 //! Energies, strains and masses of thin triangles, under the names and in the shapes of nobuyuki83/del-fem.
 //!
 //! Every routine is a safe call of a proved function (`../include/del_fem.h` says what each gives, `../docs/01-scope.md` by which rules). Where the original would
-//! panic or give numbers that mean nothing, the answer is a [`Refusal`]. [`skin`] is not the original's: it adds up what [`stvk_tri3::wdwddw_`] gives for many triangles.
+//! panic or give numbers that mean nothing, the answer is a [`Refusal`]. Two modules are not the original's: [`skin`] adds up what [`stvk_tri3::wdwddw_`] gives for many
+//! triangles, and [`mesh`] reads points and triangles from a file.
 
 mod ffi;
+pub mod mesh;
 pub mod mitc_tri3;
 pub mod quadratic_bending;
 mod refusal;
@@ -13,7 +15,7 @@ pub mod stvk_tri3;
 
 pub use refusal::Refusal;
 
-/// The most vertices that a panel or a skin may have.
+/// The most vertices that a panel, a skin or a mesh file may have.
 pub const MAX_VERTICES: usize = 65_536;
 /// The most triangles.
 pub const MAX_TRIANGLES: usize = 131_072;

@@ -14,6 +14,8 @@ pub enum Refusal {
     ZeroDivisor = 4,
     /// The finished answer has a NaN or an infinity in it.
     BadAnswer = 5,
+    /// A mesh file is not as it has to be.
+    BadFile = 8,
 }
 
 impl Refusal {
@@ -31,6 +33,7 @@ impl Refusal {
             3 => Err(Self::BadInput),
             4 => Err(Self::ZeroDivisor),
             5 => Err(Self::BadAnswer),
+            8 => Err(Self::BadFile),
             _ => unreachable!("no routine returns {number}"),
         }
     }
@@ -44,6 +47,7 @@ impl fmt::Display for Refusal {
             Self::BadInput => "a number that is read is a NaN or an infinity",
             Self::ZeroDivisor => "a divisor is zero",
             Self::BadAnswer => "the finished answer has a NaN or an infinity in it",
+            Self::BadFile => "the mesh file is not as it has to be",
         };
         write!(f, "refused ({}): {words}", self.number())
     }

@@ -1,2 +1,4 @@
 mod Parts
+mod MeshFile
 pub mod Unique
+pub mod MeshBlocks

@@ -1,13 +1,15 @@
 -- No second answer fits a statement of this crate: the number and the values are each equal to one thing. The roots' and the masses' statements are their crates' own,
--- and so are the laws that they have one answer; the skin's law is its crate's, taken apart.
+-- and so are the laws that they have one answer; the skin's law is its crate's, taken apart. What is lent for the counts of a mesh file holds the entries of one list.
 use mathlib.Core.Path.{_≡_, ap}
-use mathlib.Core.List.{List}
+use mathlib.Core.List.{List, [], _∷_}
 use Prim.Native.Nat.{ℕ}
 use lib.Ieee.{Float, Format}
 use Rattle.float.proofs.Unique.{only}
 use Rattle.skin.specs.declared.Skin.{Skin}
 use Rattle.skin.proofs.SkinAnswer.{unique}
-use Rattle.del_fem.specs.Exports.{IsBendingExport, IsStrainExport, IsStvkExport, IsPlateExport, IsSkinExport}
+use Rattle.mesh.specs.Blocks.{IsCoordinate, IsName}
+use Rattle.mesh.specs.declared.Mesh.{Mesh}
+use Rattle.del_fem.specs.Exports.{IsBendingExport, IsStrainExport, IsStvkExport, IsPlateExport, IsSkinExport, IsMeshExport, pointsAt, cellsAt, GivesBlock, IsPointsExport, IsCellsExport}
 
 module _ {r q : ℕ} {v w : List Float} where
   same : {number : ℕ} {values : List Float} → (r ≡ number) × (v ≡ values) → (q ≡ number) × (w ≡ values) → (r ≡ q) × (v ≡ w)
@@ -32,3 +34,25 @@ module _ {r q : ℕ} {v w : List Float} where
     skin vtx2ini vtx2def tri2vtx lambda myu before a b =
         let one = unique f vtx2ini vtx2def tri2vtx lambda myu before a b in
         (ap (λ (s : Skin). s .number) (one .0), ap (λ (s : Skin). s .place) (one .0), ap (λ (s : Skin). s .w) (one .0), one .1)
+
+entries : {a b c x y z : ℕ} → a ∷ b ∷ c ∷ [] ≡ x ∷ y ∷ z ∷ [] → (a ≡ x) × (b ≡ y) × (c ≡ z)
+entries e = (cc, cc, cc)
+
+module _ (file : List ℕ) {r q place spot : ℕ} where
+  pub mesh : {n m k l : ℕ} → IsMeshExport file r n m place → IsMeshExport file q k l spot → (r ≡ q) × (n ≡ k) × (m ≡ l) × (place ≡ spot)
+  mesh a b = let (e, g, h) = entries (only (a .1) (b .1)) in (only (a .0) (b .0), e, g, h)
+
+  block : (at : Mesh → ℕ × ℕ) {size long : ℕ} → GivesBlock at file r place size → GivesBlock at file q spot long → (r ≡ q) × (place ≡ spot) × (size ≡ long)
+  block at a b = (only (a .0) (b .0), only (a .1) (b .1), only (a .2) (b .2))
+
+  pub points : {size long : ℕ} → IsPointsExport file r place size → IsPointsExport file q spot long → (r ≡ q) × (place ≡ spot) × (size ≡ long)
+  points = block pointsAt
+
+  pub cells : {size long : ℕ} → IsCellsExport file r place size → IsCellsExport file q spot long → (r ≡ q) × (place ≡ spot) × (size ≡ long)
+  cells = block cellsAt
+
+pub coordinate : (points : List ℕ) (point axis : ℕ) {x y : Float} → IsCoordinate points point axis x → IsCoordinate points point axis y → x ≡ y
+coordinate points point axis = only
+
+pub name : (cells : List ℕ) (triangle corner : ℕ) {r q : ℕ} → IsName cells triangle corner r → IsName cells triangle corner q → r ≡ q
+name cells triangle corner = only

@@ -1,9 +1,12 @@
 -- What an exported kernel gives: its answer's number is returned, and the lent array holds the answer's values one after the other, whatever was in it.
 -- The answer is the one that the kernel's own statement names, with +0 throughout after a refusal (01-scope 2.1).
 use mathlib.Core.Path.{_≡_}
-use mathlib.Core.List.{List, _∷_, _++_}
-use Prim.Native.Nat.{ℕ}
+use mathlib.Core.Bool.{cond}
+use mathlib.Core.List.{List, [], _∷_, _++_}
+use Prim.Native.Nat.{ℕ, _*_}
+use lib.Dec.{eqb}
 use lib.Ieee.{Float, Format}
+use Rattle.refusal.specs.Refusal.{accepted}
 use Rattle.refusal.specs.declared.Energy.{Energy}
 use Rattle.del_geo_core.specs.Tri2 as tri2
 use Rattle.del_geo_core.specs.Tri3 as tri3
@@ -14,6 +17,9 @@ use Rattle.stvk_tri3.specs.Stvk.{wdwddwOf}
 use Rattle.stvk_tri3.specs.declared.Strain.{Strain}
 use Rattle.mitc_tri3.specs.Plate.{wDwDdwPlateBendingOf}
 use Rattle.skin.specs.Skin.{IsSkin}
+use Rattle.mesh.specs.Mesh.{meshOf, numberOf, valuesOf}
+use Rattle.mesh.specs.declared.Mesh.{Mesh}
+use Rattle.mesh.specs.declared.Mesh.the-variants.{Read, Refused}
 
 abbrev pub GivesBending : Bending → (r : ℕ) (values : List Float) → Type 0
 GivesBending a r values = (r ≡ a .number) × (values ≡ a .w ++ a .dwdp)
@@ -44,3 +50,30 @@ module _ (f : Format) where
   -- THE statement of `skin_wdw` (01-scope 5.8, 2.5): the number, the place and the energy are those of skin's own answer
   abbrev pub IsSkinExport : (vtx2ini vtx2def : List Float) (tri2vtx : List ℕ) (lambda myu : Float) (before : List Float) (r place : ℕ) (w : Float) (after : List Float) → Type 0
   IsSkinExport vtx2ini vtx2def tri2vtx lambda myu before r place w = IsSkin f vtx2ini vtx2def tri2vtx lambda myu before (record { number = r; place = place; w = w })
+
+-- n, m and place, from the number and the values that mesh's own definitions give an answer: the counts and 0, or no counts and the place
+abbrev pub lentOf : (number : ℕ) (values : List ℕ) → List ℕ
+lentOf number values = cond (eqb number accepted) (values ++ (0 ∷ [])) (0 ∷ 0 ∷ values)
+
+-- THE statement of `mesh_read`
+abbrev pub IsMeshExport : (file : List ℕ) (r n m place : ℕ) → Type 0
+IsMeshExport file r n m place = (r ≡ numberOf (meshOf file)) × (n ∷ m ∷ place ∷ [] ≡ lentOf (numberOf (meshOf file)) (valuesOf (meshOf file)))
+
+-- where a block begins and how many bytes it has; of a refused file the place, and no byte. A point has 24 bytes, a cell 16
+abbrev pub pointsAt : Mesh → ℕ × ℕ
+pointsAt (Read n m points cells types) = (points, 24 * n)
+pointsAt (Refused place) = (place, 0)
+
+abbrev pub cellsAt : Mesh → ℕ × ℕ
+cellsAt (Read n m points cells types) = (cells, 16 * m)
+cellsAt (Refused place) = (place, 0)
+
+abbrev pub GivesBlock : (at : Mesh → ℕ × ℕ) (file : List ℕ) (r place length : ℕ) → Type 0
+GivesBlock at file r place length = (r ≡ numberOf (meshOf file)) × (place ≡ at (meshOf file) .0) × (length ≡ at (meshOf file) .1)
+
+-- THE statements of `mesh_points` and `mesh_cells`: the bytes there are what mesh's own `points` and `cells` hand back (proofs/MeshBlocks.antt)
+abbrev pub IsPointsExport : (file : List ℕ) (r place length : ℕ) → Type 0
+IsPointsExport = GivesBlock pointsAt
+
+abbrev pub IsCellsExport : (file : List ℕ) (r place length : ℕ) → Type 0
+IsCellsExport = GivesBlock cellsAt

@@ -6,7 +6,10 @@ ghost use lib.ListN.{length};
 ghost use lib.Seq.{paste};
 ghost use Rattle.root.specs.Root.{SquareRoot, SquareRootWord};
 ghost use Rattle.mitc_tri3.specs.Masses.{IsMasses};
+ghost use Rattle.mesh.specs.Blocks.{IsCoordinate, IsName};
 ghost use Rattle.del_fem.specs.Exports.{GivesBending, GivesStrain, GivesEnergy, IsBendingExport, IsStrainExport, IsStvkExport, IsPlateExport, IsSkinExport};
+ghost use Rattle.del_fem.specs.Exports.{IsMeshExport, IsPointsExport, IsCellsExport};
+use mesh::Mesh;
 use quadratic_bending::Bending;
 use refusal::Energy;
 use stvk_tri3::Strain;
@@ -151,4 +154,97 @@ pub extern "C" fn skin_wdw(
     *place = skin.place;
     *w = skin.w;
     skin.number
+}
+
+// How many points and triangles a mesh file has, or the place where it is refused, each behind a reference.
+#[no_mangle]
+pub extern "C" fn mesh_read(file: &[u8], n: &mut usize, m: &mut usize, place: &mut usize) -> u32
+    ensures { λ r. ⌜ IsMeshExport (now (file .entry)) r (now (n .exit)) (now (m .exit)) (now (place .exit)) ⌝ }
+{
+    match mesh::read(file) {
+        Mesh::Read {
+            n: vertices,
+            m: triangles,
+            points: _,
+            cells: _,
+            types: _,
+        } => {
+            *n = vertices;
+            *m = triangles;
+            *place = 0;
+            refusal::ACCEPTED
+        }
+        Mesh::Refused(at) => {
+            *n = 0;
+            *m = 0;
+            *place = at;
+            refusal::BAD_FILE
+        }
+    }
+}
+
+// Where the points of a mesh file begin and how many bytes they are; or the place where it is refused, and no byte.
+#[no_mangle]
+pub extern "C" fn mesh_points(file: &[u8], place: &mut usize, length: &mut usize) -> u32
+    ensures { λ r. ⌜ IsPointsExport (now (file .entry)) r (now (place .exit)) (now (length .exit)) ⌝ }
+{
+    match mesh::read(file) {
+        Mesh::Read {
+            n,
+            m: _,
+            points,
+            cells: _,
+            types: _,
+        } => {
+            *place = points;
+            *length = 24 * n;
+            refusal::ACCEPTED
+        }
+        Mesh::Refused(at) => {
+            *place = at;
+            *length = 0;
+            refusal::BAD_FILE
+        }
+    }
+}
+
+// The same for its cells.
+#[no_mangle]
+pub extern "C" fn mesh_cells(file: &[u8], place: &mut usize, length: &mut usize) -> u32
+    ensures { λ r. ⌜ IsCellsExport (now (file .entry)) r (now (place .exit)) (now (length .exit)) ⌝ }
+{
+    match mesh::read(file) {
+        Mesh::Read {
+            n: _,
+            m,
+            points: _,
+            cells,
+            types: _,
+        } => {
+            *place = cells;
+            *length = 16 * m;
+            refusal::ACCEPTED
+        }
+        Mesh::Refused(at) => {
+            *place = at;
+            *length = 0;
+            refusal::BAD_FILE
+        }
+    }
+}
+
+// Coordinate `axis` of a point, in the bytes that `mesh_points` finds.
+#[no_mangle]
+pub extern "C" fn mesh_coordinate(points: &[u8], point: usize, axis: usize) -> f64
+    ensures { λ r. ⌜ IsCoordinate (now (points .entry)) point axis r ⌝ }
+{
+    mesh::coordinate(points, point, axis)
+}
+
+// The vertex that a triangle names at a corner, in the bytes that `mesh_cells` finds.
+#[no_mangle]
+pub extern "C" fn mesh_name(cells: &[u8], triangle: usize, corner: usize) -> usize
+    ensures { λ r. ⌜ IsName (now (cells .entry)) triangle corner r ⌝ }
+{
+    mesh::name(cells, triangle, corner)
 }

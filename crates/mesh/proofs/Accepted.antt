@@ -11,7 +11,7 @@ use lib.Seq.{take-at, take-append-seam, length-take-le, drop-append-seam}
 use Rattle.mesh.specs.Items.{end}
 use Rattle.mesh.specs.Mesh.{meshOf}
 use Rattle.mesh.specs.Blocks.{pointsIn, cellsIn}
-use Rattle.mesh.specs.Writer.{Content, Valid, fitIn, beforePoints, pointsBlock, beforeCells, cellsBlock, beforeTypes, typesBlock, encode}
+use Rattle.mesh.specs.Writer.{Content, Valid, fitIn, beforePoints, pointsBlock, beforeCells, cellsBlock, beforeTypes, typesBlock, encode, Written}
 use Rattle.mesh.specs.declared.Step.the-variants.{Bad}
 use Rattle.mesh.specs.declared.Mesh.the-variants.{Read, Refused}
 use Rattle.mesh.proofs.After.{after-next, after-bad, never-read}
@@ -25,11 +25,6 @@ written-is-read c valid = read-on (encode c) _ _ _ _ _ (file-steps c valid)
 
 joined : (f a b c d x y z rest : List ℕ) → f ≡ a ++ x → x ≡ b ++ y → y ≡ c ++ z → z ≡ d ++ rest → rest ≡ [] → f ≡ a ++ (b ++ (c ++ d))
 joined f a b c d x y z rest e1 e2 e3 e4 none = rw (e1, e2, e3, e4, none, append-nil)
-
--- f is a valid content written out, with these counts and its blocks at these places
-abbrev pub Written : (f : List ℕ) (n m points cells types : ℕ) → Type 0
-Written f n m points cells types =
-    (c : Content) × Valid c × (f ≡ encode c) × (c .n ≡ n) × (c .m ≡ m) × (length (beforePoints c) ≡ points) × (length (beforeCells c) ≡ cells) × (length (beforeTypes c) ≡ types)
 
 same-counts : (f : List ℕ) (c : Content) → Valid c → f ≡ encode c → (n m points cells types : ℕ) → meshOf f ≡ Read n m points cells types → Written f n m points cells types
 same-counts f c valid written n m points cells types e =

@@ -72,3 +72,8 @@ module _ (c : Content) where
   -- the file
   unfoldable pub encode : List ℕ
   encode = beforeTypes ++ typesBlock ++ newline
+
+-- f is a valid content written out, with these counts and its blocks at these places
+abbrev pub Written : (f : List ℕ) (n m points cells types : ℕ) → Type 0
+Written f n m points cells types =
+    (c : Content) × Valid c × (f ≡ encode c) × (c .n ≡ n) × (c .m ≡ m) × (length (beforePoints c) ≡ points) × (length (beforeCells c) ≡ cells) × (length (beforeTypes c) ≡ types)
