@@ -1,6 +1,5 @@
 -- `print` is safe: the array has three numbers, and no more are printed.
-use Prim.Native.Nat.{ℕ, _-_}
-use native.Mathlib.Omega.{arith}
+use Prim.Native.Nat.{_-_}
 use borrow.Author.Needs.{needs}
 use Rattle.mesh_count.proofs.print.Statement.{statement}
 use Rattle.mesh_count.proofs.print.Tie as tie
