@@ -1,5 +1,5 @@
--- No second answer fits a statement of this crate: the number and the values are each equal to one thing. The roots' and the masses' statements are their crates' own,
--- and so are the laws that they have one answer; the skin's law is its crate's, taken apart. What is lent for the counts of a mesh file holds the entries of one list.
+-- No second answer fits a statement of this crate: the number and the values are each equal to one thing. The roots' and the masses' statements are their crates' own, and those of a mesh's
+-- coordinates and names, and so are the laws that they have one answer; the skin's law is its crate's, taken apart. The counts and the place of a mesh file are the entries of one list.
 use mathlib.Core.Path.{_≡_, ap}
 use mathlib.Core.List.{List, [], _∷_}
 use Prim.Native.Nat.{ℕ}
@@ -7,7 +7,6 @@ use lib.Ieee.{Float, Format}
 use Rattle.float.proofs.Unique.{only}
 use Rattle.skin.specs.declared.Skin.{Skin}
 use Rattle.skin.proofs.SkinAnswer.{unique}
-use Rattle.mesh.specs.Blocks.{IsCoordinate, IsName}
 use Rattle.mesh.specs.declared.Mesh.{Mesh}
 use Rattle.del_fem.specs.Exports.{IsBendingExport, IsStrainExport, IsStvkExport, IsPlateExport, IsSkinExport, IsMeshExport, pointsAt, cellsAt, GivesBlock, IsPointsExport, IsCellsExport}
 
@@ -50,9 +49,3 @@ module _ (file : List ℕ) {r q place spot : ℕ} where
 
   pub cells : {size long : ℕ} → IsCellsExport file r place size → IsCellsExport file q spot long → (r ≡ q) × (place ≡ spot) × (size ≡ long)
   cells = block cellsAt
-
-pub coordinate : (points : List ℕ) (point axis : ℕ) {x y : Float} → IsCoordinate points point axis x → IsCoordinate points point axis y → x ≡ y
-coordinate points point axis = only
-
-pub name : (cells : List ℕ) (triangle corner : ℕ) {r q : ℕ} → IsName cells triangle corner r → IsName cells triangle corner q → r ≡ q
-name cells triangle corner = only
