@@ -38,7 +38,7 @@ extern "C" {
 #define DEL_FEM_STRAIN_VALUES 30  /* w 3, dw 27 */
 #define DEL_FEM_ENERGY_VALUES 91  /* w 1, dw 9, ddw 81 */
 
-/* The largest panel, the largest skin (01-scope 2.3, 2.5) and the largest mesh of a file. */
+/* The largest panel, the largest skin and the largest mesh of a file (01-scope 2.3, 2.5, 2.6). */
 #define DEL_FEM_MAX_VERTICES 65536
 #define DEL_FEM_MAX_TRIANGLES 131072
 
@@ -109,7 +109,7 @@ uint32_t skin_wdw(const double *vtx2ini, size_t vtx2ini_len, const double *vtx2d
     double myu, double *vtx2dw, size_t vtx2dw_len, size_t *place, double *w);
 
 /*
- * Mesh files: triangles in binary legacy VTK, version 3.0. In this order, each line and each block with one newline (10) after it and nothing behind the last:
+ * Mesh files (01-scope 5.9, 2.6): triangles in binary legacy VTK, version 3.0. In this order, each line and each block with one newline (10) after it and nothing behind the last:
  *   # vtk DataFile Version 3.0
  *   a title: any bytes but a newline, 256 at most with it
  *   BINARY
@@ -122,7 +122,7 @@ uint32_t skin_wdw(const double *vtx2ini, size_t vtx2ini_len, const double *vtx2d
  *   the types block: m 32-bit numbers 5
  * Numbers in blocks have their highest byte first. Counts are decimal without leading zeros, n at most DEL_FEM_MAX_VERTICES, m at most DEL_FEM_MAX_TRIANGLES; both may be 0.
  *
- * A file that is not so is refused at a place, counted in bytes from 0: that of the first thing in it that is wrong. It is the first byte of the line, or of the number in a block; the
+ * A file that is not so is refused at a place, counted in bytes from 0: that of the first thing in it that is wrong. It is where the line begins, or the number in a block; the
  * very byte where the newline after a block is missing, or where one follows the last newline; file_len where the file ends early, in a line that is right so far, or in a number, whatever
  * its bytes are.
  *

@@ -1,4 +1,4 @@
-// Reads a mesh file from standard input and prints one line: 0 and the counts of its points and triangles, 8 and the place of what is wrong first, or 1 for a file of more than
+// What a mesh file on standard input is, in one line: 0 and the counts of its points and triangles, 8 and the place of what is wrong first, or 1 where there are more than
 // 65,536 bytes.
 ghost use Prim.Native.Nat.{_≤_};
 ghost use Rattle.mesh_count.specs.Printed.{IsPrinted};
