@@ -42,7 +42,7 @@ extern "C" {
 #define DEL_FEM_MAX_VERTICES 65536
 #define DEL_FEM_MAX_TRIANGLES 131072
 
-/* What mesh_name gives where there is no name: masses and skin refuse it. */
+/* What mesh_name gives where there is no name: masses and skin refuse it, for no panel or skin has so many vertices. */
 #define DEL_FEM_NO_NAME ((size_t)0xFFFFFFFF)
 
 /*
@@ -144,7 +144,7 @@ uint32_t mesh_cells(const uint8_t *file, size_t file_len, size_t *place, size_t 
 
 /*
  * Coordinate axis (0, 1, 2 for x, y, z) of a point, counted from 0, in a points block: file + place and length as mesh_points finds them. The sign of zero is kept.
- * It is a NaN, which the other routines refuse, where the file has a NaN, where axis is above 2, and where the block has no such point; it refuses nothing itself.
+ * It is a NaN, which kernels, masses and skin refuse where they read it, where the file has a NaN, where axis is above 2, and where the block has no such point; it refuses nothing itself.
  */
 double mesh_coordinate(const uint8_t *points, size_t points_len, size_t point, size_t axis);
 

@@ -1,5 +1,5 @@
 -- What `coordinate` and `name` read in the blocks that the writer wrote is what it was given: number i of a block stands i numbers on, and a triangle's names past its 3.
--- Where a block has no such number, they give what every routine refuses.
+-- Where a block has no such number, they give what masses and skin refuse.
 use mathlib.Core.Path.{_≡_, sym, _∙_, ap}
 use mathlib.Core.Bool.{true, false}
 use mathlib.Core.List.{List}

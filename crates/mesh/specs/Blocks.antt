@@ -21,12 +21,12 @@ unfoldable pub cellsIn : (f : List ℕ) → Mesh → List ℕ
 cellsIn f (Read n m points cells types) = take (16 * m) (drop cells f)
 cellsIn f (Refused place) = []
 
--- coordinate `axis` of a point; the NaN, which every routine refuses, where the block has none
+-- coordinate `axis` of a point; the NaN, which masses and skin refuse, where the block has none
 unfoldable pub coordinateOf : (points : List ℕ) (point axis : ℕ) → Float
 coordinateOf points point axis =
     ofBits binary64 (cond (ltb point (length points / 24) && ltb axis 3) (bigEndian (take 8 (drop (24 * point + 8 * axis) points))) (nanWord binary64))
 
--- no vertex's name: every routine refuses it
+-- no vertex's name: masses and skin refuse it
 abbrev pub noName : ℕ
 noName = 0xffff_ffff
 

@@ -29,7 +29,7 @@ titleIn start (suc k) at (c ∷ s) = cond (eqb c 10) (Next 0 (at + 1)) (titleIn 
 abbrev pub title : (at : ℕ) (s : List ℕ) → Step
 title at s = titleIn at 256 at s
 
--- what the digits at the front of s say after n; a seventh is not looked at unless all before it are 0
+-- what the digits at the front of s say after n, as far as n stays below 1,000,000
 unfoldable pub digits : (n : ℕ) (s : List ℕ) → ℕ
 digits n [] = n
 digits n (c ∷ s) = cond (ltb n 100000) (cond (leb 48 c) (cond (ltb c 58) (digits (n * 10 + (c - 48)) s) n) n) n

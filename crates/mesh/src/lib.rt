@@ -6,7 +6,8 @@ ghost use lib.ListN.{length, drop, take};
 ghost use Rattle.float.specs.Numbers.{bigEndian};
 ghost use Rattle.refusal.specs.Panel.{maxVertices, maxTriangles};
 ghost use Rattle.mesh.specs.Text.{textOf, IsLine, Adds, digit as Text·digit, count as Text·count, pointsLine, cellsLine, typesLine};
-ghost use Rattle.mesh.specs.Items.{line as Items·line, title as Items·title, digits as Items·digits, counted, block as Items·block, right as Items·right, numbers as Items·numbers, end as Items·end};
+ghost use Rattle.mesh.specs.Items.{line as Items·line, title as Items·title, digits as Items·digits, counted};
+ghost use Rattle.mesh.specs.Items.{block as Items·block, right as Items·right, numbers as Items·numbers, end as Items·end};
 ghost use Rattle.mesh.specs.Mesh.{pointsFrom, closed as Mesh·closed, cellsFrom, typesFrom, endFrom, IsMesh};
 ghost use Rattle.mesh.specs.Blocks.{IsPoints, IsCells, IsCoordinate, IsName};
 use float::NAN_WORD;
@@ -32,7 +33,7 @@ const TYPES: [u8; 11] = *b"CELL_TYPES ";
 
 const NEWLINE: [u8; 1] = *b"\n";
 
-// No vertex's name: every routine refuses it.
+// No vertex's name: masses and skin refuse it.
 pub const NO_NAME: usize = 0xffff_ffff;
 
 // What an item of the file answers: its value and the place after it, or the place that is refused.
@@ -421,7 +422,7 @@ pub fn cells(file: &[u8]) -> &[u8]
     }
 }
 
-// Coordinate `axis` of a point of the block that `points` hands back; the NaN, which every routine refuses, where the block has none.
+// Coordinate `axis` of a point of the block that `points` hands back; the NaN, which masses and skin refuse, where the block has none.
 pub fn coordinate(points: &[u8], point: usize, axis: usize) -> f64
     ensures { λ r. ⌜ IsCoordinate (now (points .entry)) point axis r ⌝ }
 {

@@ -36,7 +36,7 @@ module _ (f : Format) (vtx2ini vtx2def : List Float) (tri2vtx : List ℕ) (lambd
       rw (accepted-sums f vtx2ini vtx2def tri2vtx lambda myu before is e .1)
       (added-holds f (partOf f vtx2ini vtx2def lambda myu) (λ x. x) before tri2vtx (verticesOf vtx2ini) size (not-false _ (tests .1)) v k h k3)
 
-  -- a point never named stays at +0
+  -- a point without a name holds +0
   pub unnamed-holds : (v k : ℕ) → v < verticesOf vtx2ini → k < 3 → every (λ i. not (eqb i v)) tri2vtx ≡ true → after ! (v * 3 + k) ≡ ops f .zero
   unfolding fold
   unnamed-holds v k h k3 n = vertex-holds v k h k3 ∙ rw (unnamed (partOf f vtx2ini vtx2def lambda myu) v tri2vtx n)
