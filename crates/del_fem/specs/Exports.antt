@@ -55,7 +55,7 @@ module _ (f : Format) where
 abbrev pub lentOf : (number : ℕ) (values : List ℕ) → List ℕ
 lentOf number values = cond (eqb number accepted) (values ++ (0 ∷ [])) (0 ∷ 0 ∷ values)
 
--- THE statement of `mesh_read`
+-- THE statement of `mesh_read` (01-scope 5.9, 2.6)
 abbrev pub IsMeshExport : (file : List ℕ) (r n m place : ℕ) → Type 0
 IsMeshExport file r n m place = (r ≡ numberOf (meshOf file)) × (n ∷ m ∷ place ∷ [] ≡ lentOf (numberOf (meshOf file)) (valuesOf (meshOf file)))
 
@@ -71,7 +71,7 @@ cellsAt (Refused place) = (place, 0)
 abbrev pub GivesBlock : (at : Mesh → ℕ × ℕ) (file : List ℕ) (r place length : ℕ) → Type 0
 GivesBlock at file r place length = (r ≡ numberOf (meshOf file)) × (place ≡ at (meshOf file) .0) × (length ≡ at (meshOf file) .1)
 
--- THE statements of `mesh_points` and `mesh_cells`: the bytes there are what mesh's own `points` and `cells` hand back (proofs/MeshBlocks.antt)
+-- THE statements of `mesh_points` and `mesh_cells` (01-scope 5.9): the bytes there are what mesh's own `points` and `cells` hand back (proofs/MeshBlocks.antt)
 abbrev pub IsPointsExport : (file : List ℕ) (r place length : ℕ) → Type 0
 IsPointsExport = GivesBlock pointsAt
 

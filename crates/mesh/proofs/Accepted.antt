@@ -8,11 +8,13 @@ use native.Mathlib.Nat.{zero-add}
 use native.Mathlib.Omega.{arith}
 use lib.ListN.{length, take, drop, length-append, length-drop, take-append-drop}
 use lib.Seq.{take-at, take-append-seam, length-take-le, drop-append-seam}
+use Rattle.refusal.specs.Refusal.{accepted, badFile}
 use Rattle.mesh.specs.Items.{end}
-use Rattle.mesh.specs.Mesh.{meshOf}
+use Rattle.mesh.specs.Mesh.{meshOf, numberOf, valuesOf}
 use Rattle.mesh.specs.Blocks.{pointsIn, cellsIn}
 use Rattle.mesh.specs.Writer.{Content, Valid, fitIn, beforePoints, pointsBlock, beforeCells, cellsBlock, beforeTypes, typesBlock, encode, Written}
 use Rattle.mesh.specs.declared.Step.the-variants.{Bad}
+use Rattle.mesh.specs.declared.Mesh.{Mesh}
 use Rattle.mesh.specs.declared.Mesh.the-variants.{Read, Refused}
 use Rattle.mesh.proofs.After.{after-next, after-bad, never-read}
 use Rattle.mesh.proofs.Sequence.{passes}
@@ -48,6 +50,23 @@ accepted-exactly f bytes n m points cells types = (read-is-written f bytes n m p
   where
     back : Written f n m points cells types → meshOf f ≡ Read n m points cells types
     back (c, valid, written, e1, e2, e3, e4, e5) = cc (written-is-read c valid)
+
+-- by number: 0, with the counts for values, exactly where a valid content was written out, and 8 exactly where none was
+pub written-number : (c : Content) → Valid c → (numberOf (meshOf (encode c)) ≡ accepted) × (valuesOf (meshOf (encode c)) ≡ c .n ∷ c .m ∷ [])
+written-number c valid = rw (written-is-read c valid) (refl, refl)
+
+pub refused-8-exactly : (f : List ℕ) → fitIn 1 f ≡ true → numberOf (meshOf f) ≡ badFile ↔ ((c : Content) → Valid c → f ≡ encode c → ⊥)
+refused-8-exactly f bytes = (there, back)
+  where
+    there : numberOf (meshOf f) ≡ badFile → (c : Content) → Valid c → f ≡ encode c → ⊥
+    there e c valid written = omega (arith, rw (written, written-is-read c valid) at e)
+
+    by : (a : Mesh) → meshOf f ≡ a → ((c : Content) → Valid c → f ≡ encode c → ⊥) → numberOf a ≡ badFile
+    by (Read n m points cells types) e none = let (c, valid, written, _, _, _, _, _) = read-is-written f bytes n m points cells types e in absurd (none c valid written)
+    by (Refused place) e none = refl
+
+    back : ((c : Content) → Valid c → f ≡ encode c → ⊥) → numberOf (meshOf f) ≡ badFile
+    back none = by (meshOf f) refl none
 
 -- every beginning of a right file is refused at its own length
 pub cut-short : (c : Content) → Valid c → (k : ℕ) → k < length (encode c) → meshOf (take k (encode c)) ≡ Refused k

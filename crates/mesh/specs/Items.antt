@@ -10,7 +10,7 @@ use Rattle.mesh.specs.declared.Step.the-variants.{Next, Bad}
 use Rattle.mesh.specs.declared.Rule.{Rule}
 use Rattle.mesh.specs.declared.Rule.the-variants.{Cell, Five}
 
--- the bytes w, of a line that begins at `start`: the file may end before them, and one that differs spoils the line
+-- the bytes w, of a line that begins at `start`: a file that ends before them is refused at its end, a byte that differs at `start`
 unfoldable pub same : (value start : ℕ) (w : List ℕ) (at : ℕ) (s : List ℕ) → Step
 same value start [] at s = Next value at
 same value start (b ∷ w) at [] = Bad at

@@ -13,6 +13,7 @@ use Rattle.mesh.specs.declared.Rule.the-variants.{Cell, Five}
 use Rattle.mesh.specs.declared.Mesh.{Mesh}
 use Rattle.mesh.specs.declared.Mesh.the-variants.{Read, Refused}
 
+-- what is answered after a part of the file, given its value and the place after it
 unfoldable pub answer : Step → (ℕ → ℕ → Mesh) → Mesh
 answer (Next value at) more = more value at
 answer (Bad place) more = Refused place

@@ -422,7 +422,7 @@ pub fn cells(file: &[u8]) -> &[u8]
     }
 }
 
-// Coordinate `axis` of a point of the block that `points` hands back; the NaN, which masses and skin refuse, where the block has none.
+// Coordinate `axis` of a point of the block that `points` hands back; the NaN, which masses and skin refuse where they read it, where the block has none.
 pub fn coordinate(points: &[u8], point: usize, axis: usize) -> f64
     ensures { λ r. ⌜ IsCoordinate (now (points .entry)) point axis r ⌝ }
 {
