@@ -42,7 +42,7 @@ goes-up s r h k =
     record { lower = omega (arith, ap (λ (x : ℕ). x * x) e); upper = omega arith }
 
 -- ---- how many digits the nearest has
-sq-lt-back : (x y : ℕ) → x * x < y * y → x < y
+pub sq-lt-back : (x y : ℕ) → x * x < y * y → x < y
 sq-lt-back x y h = lt-of-not-le (λ (g : y ≤ x). lt-irrefl (y * y) (lt-of-le-of-lt (mul-le-mul g g) h))
 
 pub not-below : (H n R : ℕ) → H * H ≤ n → Close n R → H ≤ R
@@ -56,3 +56,14 @@ not-above P n R p h c =
 pub root-pos : (s r n : ℕ) → 0 < n → s * s + r ≡ n → r ≤ 2 * s → 0 < s
 root-pos zero r n h e l = omega (arith, e)
 root-pos (suc s) r n h e l = omega arith
+
+-- ---- a candidate s, n being s * s - s + 1 + t: 4 n is then (2 s - 1) * (2 s - 1) + 4 t + 3
+pub settles : (s t n : ℕ) → t < 2 * s → n + s ≡ s * s + t + 1 → Close n s
+settles s t n h e =
+    let k : 2 * s - 1 + 1 ≡ 2 * s = omega arith in
+    record { lower = omega (arith, ap (λ (x : ℕ). x * x) k); upper = omega arith }
+
+pub settles-up : (s t n : ℕ) → 2 * s ≤ t → t < 4 * s + 2 → n + s ≡ s * s + t + 1 → Close n (s + 1)
+settles-up s t n h k e =
+    let l : 2 * (s + 1) - 1 ≡ 2 * s + 1 = omega arith in
+    record { lower = omega (arith, ap (λ (x : ℕ). x * x) l); upper = omega arith }

@@ -1,4 +1,5 @@
 pub mod Core
+pub mod Starts
 pub mod Rule
 pub mod Unique
 pub mod RootOf

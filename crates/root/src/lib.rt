@@ -1,10 +1,22 @@
-// IEEE 754's squareRoot of a binary64, nearest, by whole numbers on its bits (01-scope 4).
+// IEEE 754's squareRoot of a binary64, nearest, by whole numbers on its bits (01-scope 4). A finite x above 0 is a * 2^52 times the
+// square of a power of two, with 2^52 <= a < 2^54, and its root has the digits of R, the whole number nearest to the root of a * 2^52.
+// Computed, by multiplications: the list's entry at the top ten digits of a gives a y near 2^58 / p, with it p, the first 28 digits of
+// that root, and q = (4 a - p^2) * y / 2^34, the other 25. So s = p * 2^25 + q should be the root, rounded down.
+// Checked, by exact whole numbers: d = 4 a - p^2, e = d * 2^24 - p * q and t = e * 2^26 + s - q^2 - 1, each taken modulo 2^64. Such a
+// difference is the true one where it and what was taken away make less than 2^64; so d, e and t are tested to be small.
+// That is enough: t is then a * 2^52 - s^2 + s - 1, and the rule, (2 R - 1)^2 < 4 a * 2^52 < (2 R + 1)^2, holds for R = s where t is
+// below 2 s, and for R = s + 1 where it is from 2 s up to below 4 s + 2. How near the candidate s is, no proof asks.
+// Where a test fails, the digits of the whole root are found one by one, after the first five, which are the same entry of the list,
+// and what is left over decides the rounding; of the candidate nothing is used.
+ghost use mathlib.Core.Path.{_≡_};
 ghost use mathlib.Core.Bool.{false};
-ghost use Prim.Native.Nat.{_+_, _*_, _^_, _≤_, _<_};
+ghost use Prim.Native.Nat.{ℕ, _+_, _*_, _^_, _≤_, _<_};
 ghost use lib.Ieee.{binary64, ofBits};
 ghost use lib.Ieee.Exact.{HasValue};
 ghost use Rattle.root.specs.Root.{SquareRoot, SquareRootWord, Nearest, Close};
 ghost use Rattle.root.specs.Steps.{Unpacked, Evened, Digits};
+
+mod list;
 
 // A whole number and a power of two: m * 2^u.
 struct Parts {
@@ -18,18 +30,22 @@ struct Rooted {
     r: u64,
 }
 
+// A whole number in two halves: p * 2^25 + q.
+struct Halves {
+    p: u64,
+    q: u64,
+}
+
 // The subnormal pattern b, its digits moved up to a full 53: what it stands for is m * 2^u / 2^(1074 + 52).
 fn moved_up(b: u64) -> Parts
     requires { ⌜ (0 < b) × (b < 2 ^ 52) ⌝ }
     ensures { λ p. ⌜ Unpacked binary64 52 b (p .m) (p .u) ⌝ }
 {
-    let mut m = b;
-    let mut u = 52;
-    while m < 0x10_0000_0000_0000 {
-        m = m * 2;
-        u = u - 1;
+    let z = u64::leading_zeros(b) - 11;
+    Parts {
+        m: b << z,
+        u: 52 - z as u64,
     }
-    Parts { m, u }
 }
 
 // What the pattern b of a finite number above 0 stands for: m * 2^u / 2^(1074 + 52), m of 53 digits.
@@ -55,16 +71,17 @@ fn evened(m: u64, u: u64) -> u64
     if u % 2 == 0 { m } else { m * 2 }
 }
 
-// The 53 binary digits of the whole root of a * 2^52, and what is left over.
-// A turn takes two digits of the number, from the top of b, and finds one of the root.
+// The 53 binary digits of the whole root of a * 2^52, and what is left over. The list has the first five;
+// a turn takes two digits of the number, from the top of b, and finds one of the root.
 fn digits(a: u64) -> Rooted
-    requires { ⌜ (0 < a) × (a < 2 ^ 54) ⌝ }
+    requires { ⌜ (2 ^ 52 ≤ a) × (a < 2 ^ 54) ⌝ }
     ensures { λ d. ⌜ Digits (a * 2 ^ 52) (d .s) (d .r) ⌝ }
 {
-    let mut s: u64 = 0;
-    let mut r: u64 = 0;
-    let mut b = a * 0x400;
-    let mut i: u64 = 0;
+    let n = a / 0x1000_0000_0000;
+    let mut s = list::start(n);
+    let mut r = n - s * s;
+    let mut b = a % 0x1000_0000_0000 * 0x10_0000;
+    let mut i: u64 = 5;
     while i < 53 {
         let w = r * 4 + b / 0x4000_0000_0000_0000;
         let t = s * 4 + 1;
@@ -89,6 +106,68 @@ fn nearest(d: Rooted) -> u64
     if d.s < d.r { d.s + 1 } else { d.s }
 }
 
+// Newton's step towards 2^31 / root(h / 2^29), from a y near it. The 4 outweighs what the divisions drop: the step ends below.
+fn closer(y: u64, h: u64) -> u64
+    requires { ⌜ (y < 2 ^ 32) × (h < 2 ^ 31) ⌝ }
+    ensures { λ r. ⌜ r < 2 ^ 32 ⌝ }
+{
+    let u = y * y / 0x8000_0000 * h / 0x4000_0000;
+    let w = std::num::wrapping_sub_u64(0xc000_0000 - 4, u) % 0x1_0000_0000;
+    y * w / 0x8000_0000 % 0x1_0000_0000
+}
+
+// Near 2^31 / root(h / 2^29), s being the first five digits of that root: a parabola comes within one part in 30, and each step squares that.
+fn inverse(h: u64, s: u64) -> u64
+    requires { ⌜ (h < 2 ^ 31) × (16 ≤ s) × (s < 32) ⌝ }
+    ensures { λ r. ⌜ r < 2 ^ 32 ⌝ }
+{
+    let c = 34 - s;
+    closer(closer(closer(1_081_400_000 + 3_072_300 * c * c, h), h), h)
+}
+
+// What should be the root of a * 2^52, rounded down.
+fn candidate(a: u64) -> Halves
+    requires { ⌜ (2 ^ 52 ≤ a) × (a < 2 ^ 54) ⌝ }
+    ensures { λ c. ⌜ (c .p < 2 ^ 30) × (c .q < 2 ^ 30) ⌝ }
+{
+    let h = a / 0x80_0000;
+    let y = inverse(h, list::start(a / 0x1000_0000_0000));
+    let p = h * y / 0x2_0000_0000;
+    let d = std::num::wrapping_sub_u64(4 * a, p * p) % 0x1_0000_0000;
+    Halves {
+        p,
+        q: d * y / 0x4_0000_0000,
+    }
+}
+
+// The whole number nearest to the root of n, n being s^2 - s + 1 + t.
+fn settled(s: u64, t: u64) -> u64
+    requires { ⌜ (s < 2 ^ 56) × (t < 4 * s + 2) ⌝ }
+    ensures { λ r. ⌜ ((n : ℕ) → n + s ≡ s * s + t + 1 → Close n r) ⌝ }
+{
+    if t < 2 * s { s } else { s + 1 }
+}
+
+// The whole number nearest to the root of a * 2^52: p * 2^25 + q or one more where the check shows it, else by the digits.
+fn checked(a: u64, p: u64, q: u64) -> u64
+    requires { ⌜ (2 ^ 52 ≤ a) × (a < 2 ^ 54) × (p < 2 ^ 30) × (q < 2 ^ 30) ⌝ }
+    ensures { λ r. ⌜ Close (a * 2 ^ 52) r ⌝ }
+{
+    let s = p * 0x200_0000 + q;
+    let d = std::num::wrapping_sub_u64(4 * a, p * p);
+    if d < 0x7fff_ffff {
+        let e = std::num::wrapping_sub_u64(d * 0x100_0000, p * q);
+        if e < 0x4000_0000 {
+            let t = std::num::wrapping_sub_u64(e * 0x400_0000 + s, q * q + 1);
+            if t < 4 * s + 2 {
+                return settled(s, t);
+            }
+        }
+    }
+    let rooted = digits(a);
+    nearest(rooted)
+}
+
 // The number n * 2^j / 2^589, n of 53 digits.
 fn pack(n: u64, j: u64) -> f64
     requires { ⌜ (2 ^ 52 ≤ n) × (n < 2 ^ 53) × (j ≤ 1048) ⌝ }
@@ -103,8 +182,9 @@ fn positive(b: u64) -> f64
     ensures { λ r. ⌜ Nearest binary64 (ofBits binary64 b) r ⌝ }
 {
     let p = unpack(b);
-    let d = digits(evened(p.m, p.u));
-    pack(nearest(d), p.u / 2)
+    let a = evened(p.m, p.u);
+    let c = candidate(a);
+    pack(checked(a, c.p, c.q), p.u / 2)
 }
 
 // The root of x: a finite number above 0 by its bits, both zeros and +infinity themselves, any other number and any NaN the NaN.
