@@ -30,13 +30,13 @@ module _ {a i s r b : ℕ} (t : Turn a i s r b) where
     small = omega (arith, t .small, pow-add 2 i 1);
   }
 
--- ---- the rounding: n is s * s + r, and r at most 2 s
+-- ---- the rounding: n is s * s + r
 pub stays : (s r : ℕ) → 0 < s → r ≤ s → Close (s * s + r) s
 stays s r p h =
     let e : 2 * s - 1 + 1 ≡ 2 * s = omega arith in
     record { lower = omega (arith, ap (λ (x : ℕ). x * x) e); upper = omega arith }
 
-pub goes-up : (s r : ℕ) → s < r → r ≤ 2 * s → Close (s * s + r) (s + 1)
+pub goes-up : (s r : ℕ) → s < r → r < 3 * s + 3 → Close (s * s + r) (s + 1)
 goes-up s r h k =
     let e : 2 * (s + 1) - 1 ≡ 2 * s + 1 = omega arith in
     record { lower = omega (arith, ap (λ (x : ℕ). x * x) e); upper = omega arith }
@@ -53,17 +53,6 @@ not-above P n R p h c =
     let e : 2 * P - 1 + 1 ≡ 2 * P = omega arith in
     omega (arith, sq-lt-back (2 * R - 1) (2 * P - 1) (omega (arith, c .lower, ap (λ (x : ℕ). x * x) e)))
 
-pub root-pos : (s r n : ℕ) → 0 < n → s * s + r ≡ n → r ≤ 2 * s → 0 < s
-root-pos zero r n h e l = omega (arith, e)
-root-pos (suc s) r n h e l = omega arith
-
--- ---- a candidate s, n being s * s - s + 1 + t: 4 n is then (2 s - 1) * (2 s - 1) + 4 t + 3
-pub settles : (s t n : ℕ) → t < 2 * s → n + s ≡ s * s + t + 1 → Close n s
-settles s t n h e =
-    let k : 2 * s - 1 + 1 ≡ 2 * s = omega arith in
-    record { lower = omega (arith, ap (λ (x : ℕ). x * x) k); upper = omega arith }
-
-pub settles-up : (s t n : ℕ) → 2 * s ≤ t → t < 4 * s + 2 → n + s ≡ s * s + t + 1 → Close n (s + 1)
-settles-up s t n h k e =
-    let l : 2 * (s + 1) - 1 ≡ 2 * s + 1 = omega arith in
-    record { lower = omega (arith, ap (λ (x : ℕ). x * x) l); upper = omega arith }
+pub root-pos : (b s r n : ℕ) → b < n → s * s + r ≡ n → r ≤ 3 * s + b → 0 < s
+root-pos b zero r n h e l = omega (arith, e)
+root-pos b (suc s) r n h e l = omega arith

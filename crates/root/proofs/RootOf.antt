@@ -43,8 +43,8 @@ nearestRoot-is i n p h =
     go s (n - s * s) (omega (arith, w .0)) (omega (arith, w .1)) (ltb s (n - s * s)) (ltb→lt s (n - s * s)) (nltb→le s (n - s * s))
   where
     go : (s r : ℕ) → s * s + r ≡ n → r ≤ 2 * s → (b : Bool) → (T b → s < r) → (T (not b) → r ≤ s) → Close n (cond b (s + 1) s)
-    go s r e l true y x = rw (sym e) (goes-up s r (y tt) l)
-    go s r e l false y x = rw (sym e) (stays s r (root-pos s r n p e l) (x tt))
+    go s r e l true y x = rw (sym e) (goes-up s r (y tt) (omega arith))
+    go s r e l false y x = rw (sym e) (stays s r (root-pos 0 s r n p e (omega arith)) (x tt))
 
 -- ---- the digits of M
 size-gt : (n j : ℕ) → 2 ^ j ≤ n → j < size n

@@ -12,26 +12,28 @@ use Rattle.root.specs.Starts.{starts, Start}
 use Rattle.root.proofs.Core.{Turn, sq-lt-back}
 
 -- ---- the rule as a test of the entries from the place n on, and the law that a list which passes has the rule at each
+abbrev right : ℕ → ℕ → Bool
+right n r = leb (r * r) n && ltb n ((r + 1) * (r + 1))
+
 abbrev passed : ℕ → List ℕ → Bool
 passed n [] = true
-passed n (r ∷ rs) = leb (r * r) n && ltb n ((r + 1) * (r + 1)) && passed (suc n) rs
+passed n (r ∷ rs) = right n r && passed (suc n) rs
 
-at : (rs : List ℕ) (n i : ℕ) → T (passed n rs) → i < length rs → Start (n + i) (getD rs i 0)
-at [] n i t h = absurd (not-suc-le-zero h)
-at (r ∷ rs) n zero t h =
-    let b = and-l (leb (r * r) n && ltb n ((r + 1) * (r + 1))) (passed (suc n) rs) t in
+passed-at : (rs : List ℕ) (n i : ℕ) → T (passed n rs) → i < length rs → Start (n + i) (getD rs i 0)
+passed-at [] n i t h = absurd (not-suc-le-zero h)
+passed-at (r ∷ rs) n zero t h =
+    let b = and-l (right n r) (passed (suc n) rs) t in
     rw (add-zero n) record { lower = leb→le (r * r) n (and-l (leb (r * r) n) _ b); upper = ltb→lt n _ (and-r (leb (r * r) n) _ b) }
-at (r ∷ rs) n (suc i) t h =
-    rw (add-suc n i, ← suc-add n i) (at rs (suc n) i (and-r (leb (r * r) n && ltb n ((r + 1) * (r + 1))) (passed (suc n) rs) t) (le-of-suc-le-suc h))
+passed-at (r ∷ rs) n (suc i) t h = rw (add-suc n i, ← suc-add n i) (passed-at rs (suc n) i (and-r (right n r) _ t) (le-of-suc-le-suc h))
 
 -- the list passes: antt computes it
 pub rule : (n : ℕ) → n < 1024 → Start n (getD starts n 0)
 unfolding starts
-rule n h = rw (zero-add n) at (at starts 0 n tt h)
+rule n h = rw (zero-add n) at (passed-at starts 0 n tt h)
 
 -- ---- what the rule says of an entry
-pub only : (n r s : ℕ) → Start n r → Start n s → r ≡ s
-only n r s a b =
+pub one-start : (n r s : ℕ) → Start n r → Start n s → r ≡ s
+one-start n r s a b =
     let p = sq-lt-back r (s + 1) (omega (arith, a .lower, b .upper)) in
     let q = sq-lt-back s (r + 1) (omega (arith, b .lower, a .upper)) in
     omega arith

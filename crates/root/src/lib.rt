@@ -1,16 +1,15 @@
 // IEEE 754's squareRoot of a binary64, nearest, by whole numbers on its bits (01-scope 4). A finite x above 0 is a * 2^52 times the
 // square of a power of two, with 2^52 <= a < 2^54, and its root has the digits of R, the whole number nearest to the root of a * 2^52.
-// Computed, by multiplications: the list's entry at the top ten digits of a gives a y near 2^58 / p, with it p, the first 28 digits of
-// that root, and q = (4 a - p^2) * y / 2^34, the other 25. So s = p * 2^25 + q should be the root, rounded down.
-// Checked, by exact whole numbers: d = 4 a - p^2, e = d * 2^24 - p * q and t = e * 2^26 + s - q^2 - 1, each taken modulo 2^64. Such a
-// difference is the true one where it and what was taken away make less than 2^64; so d, e and t are tested to be small.
-// That is enough: t is then a * 2^52 - s^2 + s - 1, and the rule, (2 R - 1)^2 < 4 a * 2^52 < (2 R + 1)^2, holds for R = s where t is
-// below 2 s, and for R = s + 1 where it is from 2 s up to below 4 s + 2. How near the candidate s is, no proof asks.
+// Computed, by multiplications: from the list's entry at a / 2^44, the top ten of a's 54 digits, a y near 2^58 / root(4 a); with y a
+// p near root(4 a), not above it, and q = (4 a - p^2) * y / 2^34. So s = p * 2^25 + q should be the root rounded down, or one less.
+// Checked, by exact whole numbers: d = 4 a - p^2, e = d * 2^24 - p * q and r = e * 2^26 - q^2, each taken modulo 2^64. It is the true
+// difference where it is so small that what was taken away can be added back without reaching 2^64: each is tested for that.
+// That is enough: r is then a * 2^52 - s^2, and the rule, (2 R - 1)^2 < 4 a * 2^52 < (2 R + 1)^2, holds for R = s where r is at most s,
+// and for R = s + 1 where r is from s + 1 to 3 s + 2. How near the candidate s is, no proof asks.
 // Where a test fails, the digits of the whole root are found one by one, after the first five, which are the same entry of the list,
-// and what is left over decides the rounding; of the candidate nothing is used.
-ghost use mathlib.Core.Path.{_≡_};
+// and what is left over decides in the same way. Of the candidate nothing is used then.
 ghost use mathlib.Core.Bool.{false};
-ghost use Prim.Native.Nat.{ℕ, _+_, _*_, _^_, _≤_, _<_};
+ghost use Prim.Native.Nat.{_+_, _*_, _^_, _≤_, _<_};
 ghost use lib.Ieee.{binary64, ofBits};
 ghost use lib.Ieee.Exact.{HasValue};
 ghost use Rattle.root.specs.Root.{SquareRoot, SquareRootWord, Nearest, Close};
@@ -30,7 +29,7 @@ struct Rooted {
     r: u64,
 }
 
-// A whole number in two halves: p * 2^25 + q.
+// A whole number in two parts: p * 2^25 + q.
 struct Halves {
     p: u64,
     q: u64,
@@ -98,15 +97,16 @@ fn digits(a: u64) -> Rooted
     Rooted { s, r }
 }
 
-// The whole number nearest to the root: one up where more is left over than the whole root itself.
+// The whole number nearest to the root, s being that root rounded down or one less: one up where more is left over than s.
 fn nearest(d: Rooted) -> u64
-    requires { ⌜ (0 < d .s) × (d .s < 2 ^ 53) × (d .r ≤ 2 * d .s) ⌝ }
+    requires { ⌜ (0 < d .s) × (d .s < 2 ^ 56) × (d .r < 3 * d .s + 3) ⌝ }
     ensures { λ n. ⌜ Close (d .s * d .s + d .r) n ⌝ }
 {
     if d.s < d.r { d.s + 1 } else { d.s }
 }
 
-// Newton's step towards 2^31 / root(h / 2^29), from a y near it. The 4 outweighs what the divisions drop: the step ends below.
+// Newton's step towards 2^31 / root(h / 2^29), from a y near it. What u's divisions drop raises w by less than 3; with the 4 the answer is
+// not above, so that p^2 is not above 4 a. The two % change nothing there: they bound the products, for the proof.
 fn closer(y: u64, h: u64) -> u64
     requires { ⌜ (y < 2 ^ 32) × (h < 2 ^ 31) ⌝ }
     ensures { λ r. ⌜ r < 2 ^ 32 ⌝ }
@@ -116,7 +116,8 @@ fn closer(y: u64, h: u64) -> u64
     y * w / 0x8000_0000 % 0x1_0000_0000
 }
 
-// Near 2^31 / root(h / 2^29), s being the first five digits of that root: a parabola comes within one part in 30, and each step squares that.
+// Near 2^31 / root(h / 2^29), s being the first five digits of that root. A parabola comes within one part in 30, the steps within one in
+// 600, one in 240,000, and some units of y's last place.
 fn inverse(h: u64, s: u64) -> u64
     requires { ⌜ (h < 2 ^ 31) × (16 ≤ s) × (s < 32) ⌝ }
     ensures { λ r. ⌜ r < 2 ^ 32 ⌝ }
@@ -125,7 +126,7 @@ fn inverse(h: u64, s: u64) -> u64
     closer(closer(closer(1_081_400_000 + 3_072_300 * c * c, h), h), h)
 }
 
-// What should be the root of a * 2^52, rounded down.
+// p * 2^25 + q should be the root of a * 2^52 rounded down, or one less. h is the first 31 of a's 54 digits; the % bounds d, for the proof.
 fn candidate(a: u64) -> Halves
     requires { ⌜ (2 ^ 52 ≤ a) × (a < 2 ^ 54) ⌝ }
     ensures { λ c. ⌜ (c .p < 2 ^ 30) × (c .q < 2 ^ 30) ⌝ }
@@ -140,27 +141,19 @@ fn candidate(a: u64) -> Halves
     }
 }
 
-// The whole number nearest to the root of n, n being s^2 - s + 1 + t.
-fn settled(s: u64, t: u64) -> u64
-    requires { ⌜ (s < 2 ^ 56) × (t < 4 * s + 2) ⌝ }
-    ensures { λ r. ⌜ ((n : ℕ) → n + s ≡ s * s + t + 1 → Close n r) ⌝ }
-{
-    if t < 2 * s { s } else { s + 1 }
-}
-
-// The whole number nearest to the root of a * 2^52: p * 2^25 + q or one more where the check shows it, else by the digits.
+// The whole number nearest to the root of a * 2^52: by s = p * 2^25 + q where the check shows what that leaves over, else by the digits.
 fn checked(a: u64, p: u64, q: u64) -> u64
     requires { ⌜ (2 ^ 52 ≤ a) × (a < 2 ^ 54) × (p < 2 ^ 30) × (q < 2 ^ 30) ⌝ }
-    ensures { λ r. ⌜ Close (a * 2 ^ 52) r ⌝ }
+    ensures { λ n. ⌜ Close (a * 2 ^ 52) n ⌝ }
 {
     let s = p * 0x200_0000 + q;
     let d = std::num::wrapping_sub_u64(4 * a, p * p);
-    if d < 0x7fff_ffff {
+    if d < 0x4000_0000 {
         let e = std::num::wrapping_sub_u64(d * 0x100_0000, p * q);
         if e < 0x4000_0000 {
-            let t = std::num::wrapping_sub_u64(e * 0x400_0000 + s, q * q + 1);
-            if t < 4 * s + 2 {
-                return settled(s, t);
+            let r = std::num::wrapping_sub_u64(e * 0x400_0000, q * q);
+            if r < 3 * s + 3 {
+                return nearest(Rooted { s, r });
             }
         }
     }

@@ -1,4 +1,4 @@
-// The list that every root starts from (docs/01-scope.md 4.3), and its entry at n.
+// The list that the root of every finite number above 0 starts from (01-scope 4.3), and its entry at n.
 ghost use mathlib.Core.Path.{_≡_};
 ghost use Prim.Native.Nat.{_+_, _*_, _%_, _≤_, _<_};
 ghost use lib.ListN.{getD};
@@ -39,14 +39,15 @@ const STARTS: [u8; 1024] = *b"\
     \x1e\x1f\x1f\x1f\x1f\x1f\x1f\x1f\x1f\x1f\x1f\x1f\x1f\x1f\x1f\x1f\x1f\x1f\x1f\x1f\x1f\x1f\x1f\x1f\x1f\x1f\x1f\x1f\x1f\x1f\x1f\x1f\
     \x1f\x1f\x1f\x1f\x1f\x1f\x1f\x1f\x1f\x1f\x1f\x1f\x1f\x1f\x1f\x1f\x1f\x1f\x1f\x1f\x1f\x1f\x1f\x1f\x1f\x1f\x1f\x1f\x1f\x1f\x1f\x1f";
 
+// The constant with a contract: its entries are the definition's.
 fn all() -> [u8; 1024]
     ensures { λ t. ⌜ t ≡ starts ⌝ }
 {
     STARTS
 }
 
-// The entry at k. Each index is a constant, so that the compiler keeps these six entries in read-only memory: for one that it cannot
-// foresee it would lay out the whole list at every call.
+// The entry at k. Each index is a constant, so that the compiler keeps these six entries in read-only memory; an index that is none would
+// make it lay out the whole list on the stack at every call.
 fn entry(t: [u8; 1024], k: u64) -> u8
     requires { ⌜ (256 ≤ k) × (k < 1024) × (k % 128 ≡ 0) ⌝ }
     ensures { λ s. ⌜ s ≡ getD t k 0 ⌝ }
@@ -61,8 +62,8 @@ fn entry(t: [u8; 1024], k: u64) -> u8
     }
 }
 
-// Of s and s + d the one that the root of n is less than d above.
-fn nearer(s: u64, d: u64, n: u64) -> u64
+// s + d where its square is not above n, else s: the root of n is then less than d above the answer.
+fn stepped(s: u64, d: u64, n: u64) -> u64
     requires { ⌜ (s * s ≤ n) × (n < (s + 2 * d) * (s + 2 * d)) × (n < 1024) × (d ≤ 2) ⌝ }
     ensures { λ r. ⌜ (r * r ≤ n) × (n < (r + d) * (r + d)) ⌝ }
 {
@@ -70,11 +71,11 @@ fn nearer(s: u64, d: u64, n: u64) -> u64
     if r * r <= n { r } else { s }
 }
 
-// The list's entry at n: that at the multiple of 128 below it, or up to three more.
+// The list's entry at n: that at the last multiple of 128 not above n, or up to three more.
 pub(crate) fn start(n: u64) -> u64
     requires { ⌜ (256 ≤ n) × (n < 1024) ⌝ }
     ensures { λ s. ⌜ s ≡ getD starts n 0 ⌝ }
 {
     let s = entry(all(), n / 128 * 128) as u64;
-    nearer(nearer(s, 2, n), 1, n)
+    stepped(stepped(s, 2, n), 1, n)
 }

@@ -21,7 +21,7 @@ ended : (a i s r b : ℕ) → 0 < a → 53 ≤ i → Turn (a * 2 ^ 10) i s r b �
 ended a i s r b p h t =
     let e : i ≡ 53 = omega arith in
     let sum : s * s + r ≡ a * 2 ^ 52 = omega (arith, rw e at (t .0 .sum), t .0 .window) in
-    record { sum = sum; left = t .0 .left; some = root-pos s r (a * 2 ^ 52) (omega arith) sum (t .0 .left); below = t .2 }
+    record { sum = sum; left = t .0 .left; some = root-pos 0 s r (a * 2 ^ 52) (omega arith) sum (omega (arith, t .0 .left)); below = t .2 }
 
 -- the list's rule at the top ten digits
 ruled : (a s : ℕ) → a < 2 ^ 54 → s ≡ getD starts (a / 2 ^ 44) 0 → Start (a / 2 ^ 44) s

@@ -1,11 +1,11 @@
 -- `root::moved_up` meets its contract: leading zeros and digits make 64, so that z more places make 53 digits, and what m gains u loses.
 use mathlib.Core.Path.{_≡_, refl, sym, ap, _∙_}
 use Prim.Native.Nat.{ℕ, suc, _+_, _-_, _*_, _%_, _^_, _≤_, _<_}
-use native.Mathlib.Nat.{le-trans, lt-of-not-le, not-le-of-lt, mul-assoc, mul-le-mul-right, mod-eq-of-lt}
+use native.Mathlib.Nat.{le-trans, lt-of-not-le, not-le-of-lt, mul-assoc, mul-le-mul-right}
 use native.Mathlib.Omega.{arith}
 use lib.Count.{leadingZeros, leading-top}
 use lib.Ieee.{binary64}
-use lib.Pow.{pow-add, pow-mono, shl-lt}
+use lib.Pow.{pow-add, pow-mono, shl-lt, shl-exact}
 use Rattle.root.specs.Steps.{Unpacked}
 use Rattle.root.proofs.Fields.{unpack-subnormal}
 use Rattle.root.proofs.moved_up.Statement.{statement}
@@ -26,7 +26,7 @@ module _ (b : ℕ) (in-b : (0 < b) × (b < 2 ^ 52)) where
       let s' : suc j + z ≡ 53 = omega arith in
       let lower : 2 ^ 52 ≤ b * 2 ^ z = rw (← pow-add 2 j z, s) at (mul-le-mul-right (2 ^ z) (t .3)) in
       let upper : b * 2 ^ z < 2 ^ 53 = rw s' at (shl-lt (suc j) z (t .4)) in
-      let same : b * 2 ^ z % 2 ^ 64 ≡ b * 2 ^ z = mod-eq-of-lt (omega (arith, upper)) in
+      let same : b * 2 ^ z % 2 ^ 64 ≡ b * 2 ^ z = shl-exact (suc j) z 64 (t .4) (omega arith) in
       let u : z + (52 - z) ≡ 52 = omega arith in
       rw same (unpack-subnormal binary64 52 b (b * 2 ^ z) (52 - z) (in-b .1) lower upper (omega arith)
       (mul-assoc b (2 ^ z) (2 ^ (52 - z)) ∙ ap (λ (k : ℕ). b * k) (sym (pow-add 2 z (52 - z)) ∙ ap (λ (k : ℕ). 2 ^ k) u)))

@@ -7,8 +7,8 @@ use lib.ListN.{getD}
 use Rattle.root.proofs.list.entry.Statement.{statement}
 use Rattle.root.proofs.list.entry.Tie as tie
 
-at : (c : tie.Start) (i : ℕ) → c .args .k ≡ i → getD (c .args .t1) i 0 ≡ getD (c .args .t1) (c .args .k) 0
-at c i e = ap (λ (z : ℕ). getD (c .args .t1) z 0) (sym e)
+same-place : (c : tie.Start) (i : ℕ) → c .args .k ≡ i → getD (c .args .t1) i 0 ≡ getD (c .args .t1) (c .args .k) 0
+same-place c i e = ap (λ (z : ℕ). getD (c .args .t1) z 0) (sym e)
 
 pub entry-spec : {M : Type 1} → statement M
 entry-spec = tie.close (tie.spec
@@ -18,9 +18,9 @@ entry-spec = tie.close (tie.spec
     (λ c. search needs)
     (λ c. search needs)
     (λ c. search needs)
-    (λ c. at (c .before) 256 (omega arith))
-    (λ c. at (c .before) 384 (omega arith))
-    (λ c. at (c .before) 512 (omega arith))
-    (λ c. at (c .before) 640 (omega arith))
-    (λ c. at (c .before) 768 (omega arith))
-    (λ c. at (c .before) 896 (omega arith)))
+    (λ c. same-place (c .before) 256 (omega arith))
+    (λ c. same-place (c .before) 384 (omega arith))
+    (λ c. same-place (c .before) 512 (omega arith))
+    (λ c. same-place (c .before) 640 (omega arith))
+    (λ c. same-place (c .before) 768 (omega arith))
+    (λ c. same-place (c .before) 896 (omega arith)))

@@ -1,4 +1,4 @@
--- `root::list::start` meets its contract: the root of n is less than 4 above the entry at k, the multiple of 128 below n; two halvings leave the number that has the list's rule at n.
+-- `root::list::start` meets its contract: the root of n is less than 4 above the entry at k, the last multiple of 128 not above n; two steps leave the number that has the list's rule at n.
 use mathlib.Core.Path.{_≡_}
 use Prim.Native.Nat.{ℕ, _+_, _*_, _/_, _≤_, _<_}
 use native.Mathlib.Nat.{mul-le-mul}
@@ -8,7 +8,7 @@ use borrow.Author.Needs.{needs}
 use lib.ListN.{getD}
 use Rattle.root.specs.Starts.{starts, Start}
 use Rattle.root.proofs.Core.{sq-lt-back}
-use Rattle.root.proofs.Starts.{rule, only}
+use Rattle.root.proofs.Starts.{rule, one-start}
 use Rattle.root.proofs.list.start.Statement.{statement}
 use Rattle.root.proofs.list.start.Tie as tie
 
@@ -35,4 +35,4 @@ start-spec = tie.close (tie.spec
     (λ c κs. let l = c .before in asked _ _ (l .before .pre) (rw (l .all .ensures) at (c .entry .ensures)))
     (λ c κs. search needs)
     (λ c. let n = c .before .before .before .before in
-    only (n .args .n) _ _ (record { lower = c .nearer2 .ensures .0; upper = c .nearer2 .ensures .1 }) (rule (n .args .n) (n .pre .1))))
+    one-start (n .args .n) _ _ (record { lower = c .stepped2 .ensures .0; upper = c .stepped2 .ensures .1 }) (rule (n .args .n) (n .pre .1))))

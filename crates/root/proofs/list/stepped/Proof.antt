@@ -1,16 +1,16 @@
--- `root::list::nearer` meets its contract: n is below the square of s + 2 d, and the test tells on which side of that of s + d.
+-- `root::list::stepped` meets its contract: n is below the square of s + 2 d, and the test tells on which side of that of s + d.
 use Prim.Native.Nat.{_+_, _≤_}
 use native.Mathlib.Nat.{mul-le-mul}
 use native.Mathlib.Omega.{arith}
 use Rattle.root.proofs.Core.{sq-lt-back}
-use Rattle.root.proofs.list.nearer.Statement.{statement}
-use Rattle.root.proofs.list.nearer.Tie as tie
+use Rattle.root.proofs.list.stepped.Statement.{statement}
+use Rattle.root.proofs.list.stepped.Tie as tie
 
 small : (c : tie.Start) → c .args .s + c .args .d ≤ 33
 small c = omega (arith, sq-lt-back (c .args .s) 32 (omega arith))
 
-pub nearer-spec : {M : Type 1} → statement M
-nearer-spec = tie.close (tie.spec
+pub stepped-spec : {M : Type 1} → statement M
+stepped-spec = tie.close (tie.spec
     (λ c. omega (arith, small c))
     (λ c. omega (arith, mul-le-mul (small c) (small c)))
     (λ c. (c .if1 .taken, omega arith))
