@@ -1,4 +1,4 @@
--- The list has its rule at every entry, by one test that antt computes and one law; one number alone has it; and it starts the digit loop.
+-- The list has its rule at every entry, by one computed test and one law; one number alone has it; and it starts the digit loop.
 use mathlib.Core.Path.{_≡_}
 use mathlib.Core.Bool.{Bool, true, _&&_}
 use mathlib.Core.List.{List, [], _∷_}
@@ -26,7 +26,7 @@ passed-at (r ∷ rs) n zero t h =
     rw (add-zero n) record { lower = leb→le (r * r) n (and-l (leb (r * r) n) _ b); upper = ltb→lt n _ (and-r (leb (r * r) n) _ b) }
 passed-at (r ∷ rs) n (suc i) t h = rw (add-suc n i, ← suc-add n i) (passed-at rs (suc n) i (and-r (right n r) _ t) (le-of-suc-le-suc h))
 
--- the list passes: antt computes it
+-- the list passes: it is computed
 pub rule : (n : ℕ) → n < 1024 → Start n (getD starts n 0)
 unfolding starts
 rule n h = rw (zero-add n) at (passed-at starts 0 n tt h)

@@ -4,12 +4,12 @@ use Prim.Native.Nat.{ℕ, _+_, _*_, _≤_, _<_}
 use Rattle.float.specs.Lists.{table}
 use Rattle.root.specs.Root.{isqrt}
 
--- for every number from 0 to 1,023, in this order, the largest whole number whose square is not above it
+-- the roots of 0, 1, 2 and so on up to 1,023, in this order, each rounded down
 unfoldable pub starts : List ℕ
 unfolding table isqrt
 starts = table 1024 (isqrt 5)
 
--- the rule: r is the largest whole number whose square is not above n
+-- the rule: r is the root of n rounded down
 pub record Start (n r : ℕ) : Type 0 where
   pub lower : r * r ≤ n
   pub upper : n < (r + 1) * (r + 1)

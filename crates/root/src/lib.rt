@@ -2,8 +2,8 @@
 // square of a power of two, with 2^52 <= a < 2^54, and its root has the digits of R, the whole number nearest to the root of a * 2^52.
 // Computed, by multiplications: from the list's entry at a / 2^44, the top ten of a's 54 digits, a y near 2^58 / root(4 a); with y a
 // p near root(4 a), not above it, and q = (4 a - p^2) * y / 2^34. So s = p * 2^25 + q should be the root rounded down, or one less.
-// Checked, by exact whole numbers: d = 4 a - p^2, e = d * 2^24 - p * q and r = e * 2^26 - q^2, each taken modulo 2^64. It is the true
-// difference where it is so small that what was taken away can be added back without reaching 2^64: each is tested for that.
+// Checked, by exact whole numbers: d = 4 a - p^2, e = d * 2^24 - p * q and r = e * 2^26 - q^2, each taken modulo 2^64. Each is the true
+// difference where it is so small that what was taken away can be added back without reaching 2^64, and each is tested for that.
 // That is enough: r is then a * 2^52 - s^2, and the rule, (2 R - 1)^2 < 4 a * 2^52 < (2 R + 1)^2, holds for R = s where r is at most s,
 // and for R = s + 1 where r is from s + 1 to 3 s + 2. How near the candidate s is, no proof asks.
 // Where a test fails, the digits of the whole root are found one by one, after the first five, which are the same entry of the list,
@@ -97,7 +97,7 @@ fn digits(a: u64) -> Rooted
     Rooted { s, r }
 }
 
-// The whole number nearest to the root, s being that root rounded down or one less: one up where more is left over than s.
+// The whole number nearest to the root of s^2 + r, which the bound on r keeps below s + 3/2: one up where more is left over than s.
 fn nearest(d: Rooted) -> u64
     requires { ⌜ (0 < d .s) × (d .s < 2 ^ 56) × (d .r < 3 * d .s + 3) ⌝ }
     ensures { λ n. ⌜ Close (d .s * d .s + d .r) n ⌝ }
@@ -106,7 +106,7 @@ fn nearest(d: Rooted) -> u64
 }
 
 // Newton's step towards 2^31 / root(h / 2^29), from a y near it. What u's divisions drop raises w by less than 3; with the 4 the answer is
-// not above, so that p^2 is not above 4 a. The two % change nothing there: they bound the products, for the proof.
+// not above that number, so that p^2 is not above 4 a. Near it the two % change nothing: they bound the products, for the proof.
 fn closer(y: u64, h: u64) -> u64
     requires { ⌜ (y < 2 ^ 32) × (h < 2 ^ 31) ⌝ }
     ensures { λ r. ⌜ r < 2 ^ 32 ⌝ }

@@ -1,10 +1,10 @@
-// The list that the root of every finite number above 0 starts from (01-scope 4.3), and its entry at n.
+// The list that the root of every finite number above 0 starts from (01-scope 4.3), and its entry at n, from 256 on.
 ghost use mathlib.Core.Path.{_≡_};
 ghost use Prim.Native.Nat.{_+_, _*_, _%_, _≤_, _<_};
 ghost use lib.ListN.{getD};
 ghost use Rattle.root.specs.Starts.{starts};
 
-// For every n from 0 to 1,023 the largest whole number whose square is not above n; a line holds 32 of them.
+// The roots of 0, 1, 2 and so on up to 1,023, each rounded down; a line holds 32 of them.
 const STARTS: [u8; 1024] = *b"\
     \x00\x01\x01\x01\x02\x02\x02\x02\x02\x03\x03\x03\x03\x03\x03\x03\x04\x04\x04\x04\x04\x04\x04\x04\x04\x05\x05\x05\x05\x05\x05\x05\
     \x05\x05\x05\x05\x06\x06\x06\x06\x06\x06\x06\x06\x06\x06\x06\x06\x06\x07\x07\x07\x07\x07\x07\x07\x07\x07\x07\x07\x07\x07\x07\x07\
@@ -46,7 +46,7 @@ fn all() -> [u8; 1024]
     STARTS
 }
 
-// The entry at k. Each index is a constant, so that the compiler keeps these six entries in read-only memory; an index that is none would
+// The entry at k. Each index is a constant, so that the compiler keeps these six entries in read-only memory; any other index would
 // make it lay out the whole list on the stack at every call.
 fn entry(t: [u8; 1024], k: u64) -> u8
     requires { ⌜ (256 ≤ k) × (k < 1024) × (k % 128 ≡ 0) ⌝ }

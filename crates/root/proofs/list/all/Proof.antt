@@ -1,4 +1,4 @@
--- `root::list::all` meets its contract: antt computes both lists.
+-- `root::list::all` meets its contract: both lists are computed.
 use mathlib.Core.Path.{refl}
 use Rattle.root.specs.Starts.{starts}
 use Rattle.root.proofs.list.all.Statement.{statement}
