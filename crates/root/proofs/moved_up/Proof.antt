@@ -33,9 +33,9 @@ module _ (b : ℕ) (in-b : (0 < b) × (b < 2 ^ 52)) where
 
 pub moved-up-spec : {M : Type 1} → statement M
 moved-up-spec = tie.close (tie.spec
-    (λ c. let t = places (c .args .b) (c .pre) in omega (arith, t .1, t .2))
-    (λ c. let t = places (c .args .b) (c .pre) in omega (arith, t .1, t .2))
-    (λ c. let t = places (c .args .b) (c .pre) in omega (arith, t .1, t .2))
-    (λ c. let t = places (c .args .b) (c .pre) in omega (arith, t .1, t .2))
-    (λ c. let t = places (c .args .b) (c .pre) in omega (arith, t .1, t .2))
+    (λ c. omega (arith, places (c .args .b) (c .pre)))
+    (λ c. omega (arith, places (c .args .b) (c .pre)))
+    (λ c. omega (arith, places (c .args .b) (c .pre)))
+    (λ c. omega (arith, places (c .args .b) (c .pre)))
+    (λ c. omega (arith, places (c .args .b) (c .pre)))
     (λ c. unpacked (c .args .b) (c .pre) _ refl))
