@@ -10,14 +10,15 @@ use lib.Ieee.Fits.{two, reach}
 use Rattle.float.specs.Ops.{Ops, ops}
 use Rattle.rounding.specs.Exact.{Num, Equal, _⊟_, _⊠_, scale, sizeOf, signed, value, Number}
 use Rattle.rounding.specs.Dyadic.{Dyad, Room}
+use Rattle.rounding.specs.Whole.{unit}
 use Rattle.rounding.proofs.Num.{difference-scale, product-scale}
 use Rattle.rounding.proofs.Nearest.{top-digit}
 use Rattle.rounding.proofs.Dyadic.{whole-room, dyad-sub, dyad-mul}
+use Rattle.rounding.proofs.Whole.{whole, Coordinate, half-dyad}
 use Rattle.del_geo_core.specs.Tri2.{areaOf}
 use Rattle.del_geo_core.specs.declared.tri2.Tri2.{Tri2}
-use Rattle.mass_bounds.specs.Range.{unit}
 use Rattle.mass_bounds.specs.Shares.{twiceArea}
-use Rattle.mass_bounds.proofs.Premises.{whole, Coordinate, Corners, half-dyad}
+use Rattle.mass_bounds.proofs.Premises.{Corners}
 
 module _ (f : Format) where
   open Ops (ops f) using (_⊖_, _⊗_)

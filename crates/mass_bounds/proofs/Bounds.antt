@@ -15,16 +15,18 @@ use Rattle.float.proofs.Scan.{both, every-at, every-iff}
 use Rattle.refusal.specs.Refusal.{accepted}
 use Rattle.refusal.specs.Panel.{maxTriangles, badLengthOf, namesBelow}
 use Rattle.refusal.proofs.Panel.{sized}
+use Rattle.rounding.specs.Whole.{isNumber}
+use Rattle.rounding.proofs.Whole.{number-iff}
 use Rattle.mitc_tri3.specs.Example.{points, thick, rho}
 use Rattle.mitc_tri3.specs.Masses.{pointAt, verticesOf, pointFinite, namedFinite, badInputOf, massesOf, bufferOf, IsMasses}
 use Rattle.mitc_tri3.specs.Vertex.{trianglesOf, shareOf}
 use Rattle.mitc_tri3.proofs.MassesAnswer.{accepted-exactly, accepted-masses}
 use Rattle.mitc_tri3.proofs.Vertex.{masses-sized, masses-hold}
-use Rattle.mass_bounds.specs.Range.{isNumber, wholeAt, inRange}
+use Rattle.mass_bounds.specs.Range.{wholeAt, inRange}
 use Rattle.mass_bounds.specs.Bounds.{NearExact, Demand3}
 use Rattle.mass_bounds.specs.Example.{names, untouched}
 use Rattle.mass_bounds.proofs.RuledOut.{meets, right-lengths, right-names}
-use Rattle.mass_bounds.proofs.Premises.{number-iff, point, in-range}
+use Rattle.mass_bounds.proofs.Premises.{point, in-range}
 use Rattle.mass_bounds.proofs.Share.{Margins}
 use Rattle.mass_bounds.proofs.Vertex.{vertex}
 use Rattle.mass_bounds.proofs.Sums.{add-up, sum-near}

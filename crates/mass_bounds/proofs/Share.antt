@@ -10,17 +10,18 @@ use lib.Ieee.{Float, Format, binary32, binary64, prec, emax, low}
 use lib.Ieee.Positive.{first-pos}
 use Rattle.float.specs.Ops.{Ops, ops}
 use Rattle.rounding.specs.Exact.{Num, _⊠_, sizeOf, mag, value}
+use Rattle.rounding.specs.Whole.{unit}
 use Rattle.rounding.proofs.Num.{size-equal, size-scale, product-assoc}
 use Rattle.rounding.proofs.Chain.{near-exact, at-least-multiple}
 use Rattle.rounding.proofs.Margin.{Between, Safe, safe-mul, safe-div}
+use Rattle.rounding.proofs.Whole.{three-dyad, twelve-dyad}
 use Rattle.del_geo_core.specs.Tri2.{areaOf}
 use Rattle.del_geo_core.specs.declared.tri2.Tri2.{Tri2}
 use Rattle.mitc_tri3.specs.Masses.{massOf}
 use Rattle.mitc_tri3.specs.Vertex.{shareOf}
-use Rattle.mass_bounds.specs.Range.{unit}
 use Rattle.mass_bounds.specs.Shares.{twiceArea, weight, exactShare, over}
 use Rattle.mass_bounds.specs.Bounds.{roundings}
-use Rattle.mass_bounds.proofs.Premises.{Corners, three-dyad, twelve-dyad}
+use Rattle.mass_bounds.proofs.Premises.{Corners}
 use Rattle.mass_bounds.proofs.Area.{AreaOf, area-exact}
 
 -- the room that a format needs for coordinates up to B, density and thickness between 1 / R and R, and N names: twice an area is a whole number of its digits,

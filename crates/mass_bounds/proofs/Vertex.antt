@@ -14,13 +14,14 @@ use Rattle.float.proofs.Fold.{threes-keep}
 use Rattle.rounding.specs.Exact.{sizeOf, value, Number}
 use Rattle.rounding.specs.Error.{Within}
 use Rattle.rounding.specs.Sums.{All, sumOf, exactSum}
+use Rattle.rounding.specs.Whole.{unit}
 use Rattle.rounding.proofs.Sums.{all-append, all-map}
 use Rattle.rounding.proofs.Margin.{safe-sum}
 use Rattle.places.specs.Vertex.{when, namedBy, givenTo}
 use Rattle.del_geo_core.specs.declared.tri2.Tri2.{Tri2}
 use Rattle.mitc_tri3.specs.Masses.{cornersAt}
 use Rattle.mitc_tri3.specs.Vertex.{trianglesOf, shareOf}
-use Rattle.mass_bounds.specs.Range.{unit, wholeAt, inRange}
+use Rattle.mass_bounds.specs.Range.{wholeAt, inRange}
 use Rattle.mass_bounds.specs.Shares.{exactShare, over}
 use Rattle.mass_bounds.specs.Bounds.{roundings}
 use Rattle.mass_bounds.proofs.Premises.{Corners, point, in-range}

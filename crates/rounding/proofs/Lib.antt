@@ -10,4 +10,5 @@ pub mod Finite
 pub mod ExactSums
 pub mod Margin
 pub mod Dyadic
+pub mod Whole
 pub mod Examples
