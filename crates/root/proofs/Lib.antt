@@ -3,4 +3,5 @@ pub mod Starts
 pub mod Rule
 pub mod Unique
 pub mod RootOf
+pub mod Square
 pub mod Fields

@@ -47,7 +47,7 @@ nearestRoot-is i n p h =
     go s r e l false y x = rw (sym e) (stays s r (root-pos 0 s r n p e (omega arith)) (x tt))
 
 -- ---- the digits of M
-size-gt : (n j : ℕ) → 2 ^ j ≤ n → j < size n
+pub size-gt : (n j : ℕ) → 2 ^ j ≤ n → j < size n
 size-gt n j h = lt-of-not-le (λ (g : size n ≤ j). lt-irrefl n (lt-of-lt-of-le (size-lt n) (le-trans (pow-mono g) h)))
 
 leading : (n M j a b : ℕ) → n ≡ M * 2 ^ j → a + j < size n → size n ≤ b + j → (2 ^ a ≤ M) × (M < 2 ^ b)

@@ -23,7 +23,7 @@ pub powers : (f : Format) → (2 ^ prec f ≡ 2 * hid f) × (2 ^ (2 * (prec f - 
 powers binary32 = (refl, refl, refl)
 powers binary64 = (refl, refl, refl)
 
-double : (a : ℕ) → 2 ^ (2 * a) ≡ 2 ^ a * 2 ^ a
+pub double : (a : ℕ) → 2 ^ (2 * a) ≡ 2 ^ a * 2 ^ a
 double a = let e : 2 * a ≡ a + a = omega arith in ap (λ (z : ℕ). 2 ^ z) e ∙ pow-add 2 a a
 
 -- ---- a finite number above 0: n is nearest to M's root, and M has the digits that the rule asks for, with room above it for the rounding
