@@ -1,2 +1,3 @@
 pub mod StrainAnswer
+pub mod GreenLagrangeAnswer
 pub mod EnergyAnswer

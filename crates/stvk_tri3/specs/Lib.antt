@@ -1,3 +1,4 @@
 pub mod Edges
 pub mod Strain
+pub mod GreenLagrange
 pub mod Stvk

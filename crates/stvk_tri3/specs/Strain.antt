@@ -26,7 +26,7 @@ use Rattle.stvk_tri3.specs.declared.strains.Values.{Values}
 unfoldable pub badInputOf : (ini : Tri2) (def : Tri3) → Bool
 badInputOf ini def = not (tri2.isFiniteOf ini && tri3.isFiniteOf def)
 
--- 4, one of the divisors of 01-scope 5.4 is zero: twice the area, or the norm of a contravariant vector before it is normalized
+-- 4, one of the divisors of 01-scope 5.4 is zero: twice the area, or the norm of a contravariant vector before it is normalized; of 5.10: the normal's norm, or a dot
 unfoldable pub zeroDivisorOf : Rest → Bool
 zeroDivisorOf rest = isZero (rest .«gd0_z» .by) || isZero (rest .«gu0_x» .by) || isZero (rest .«gu0_y» .by)
 
@@ -110,12 +110,15 @@ module _ (f : Format) where
       let keep = eqb number accepted in
       record { number = number; w = cond keep w (replicate 3 zero); dw = cond keep dw (replicate 27 zero) }
 
-  unfoldable pub wdwOf : (ini : Tri2) (def : Tri3) → Strain
-  wdwOf ini def =
-      let rest = restOf ini in
+  -- the answer, from what was made of the rest corners
+  abbrev pub answerOf : (ini : Tri2) (def : Tri3) (rest : Rest) → Strain
+  answerOf ini def rest =
       let values = valuesOf (rest .gd0) (edgesOf f def) (rest .«gu0_x» .v) (rest .«gu0_y» .v) in
       let number = kernelNumber (badInputOf ini def) (zeroDivisorOf rest) (badAnswerOf (values .w) (values .dw)) in
       strainOf number (values .w) (values .dw)
+
+  unfoldable pub wdwOf : (ini : Tri2) (def : Tri3) → Strain
+  wdwOf ini def = answerOf ini def (restOf ini)
 
   -- THE statement of `wdw`
   abbrev pub IsStrain : (pIni pDef : List (List Float)) (r : Strain) → Type 0

@@ -1,11 +1,13 @@
-// Ported from stvk_tri3.rs: the strain of a triangle, and its StVK energy. An index 0, 1, 2 of the source is x, y, z here.
+// Ported from stvk_tri3.rs: the strain of a triangle, and its StVK energy; by request a second strain. An index 0, 1, 2 of the source is x, y, z here.
 ghost use mathlib.Core.Path.{_≡_};
 ghost use lib.Ieee.{binary64};
 ghost use Rattle.stvk_tri3.specs.Edges.{edgesOf, glstrainOf};
+ghost use Rattle.stvk_tri3.specs.GreenLagrange.{IsGreenLagrange};
 ghost use Rattle.stvk_tri3.specs.Strain.{IsStrain};
 ghost use Rattle.stvk_tri3.specs.Stvk.{IsStvk};
 
 mod energy;
+mod green_lagrange;
 mod strains;
 
 use del_geo_core::tri2;
@@ -54,6 +56,24 @@ pub fn wdw(p_ini: [[f64; 2]; 3], p_def: [[f64; 3]; 3]) -> Strain
     let ini = tri2::corners(p_ini);
     let def = tri3::corners(p_def);
     let rest = strains::rest_of(ini);
+    let values = strains::values_of(rest.gd0, edges(def), rest.gu0_x.v, rest.gu0_y.v);
+    let w = values.w;
+    let dw = values.dw;
+    let number = refusal::kernel(
+        strains::bad_input(ini, def),
+        strains::zero_divisor(rest),
+        strains::bad_answer(w, dw),
+    );
+    strains::answer(number, w, dw)
+}
+
+// The Green-Lagrange strain in the sheet's own axes, (F^T F - I) / 2 with the off-diagonal doubled, and its derivatives: `wdw`, but for the rest triangle's normal and contravariant vectors.
+pub fn wdw_green_lagrange(p_ini: [[f64; 2]; 3], p_def: [[f64; 3]; 3]) -> Strain
+    ensures { λ r. ⌜ IsGreenLagrange binary64 «p_ini» «p_def» r ⌝ }
+{
+    let ini = tri2::corners(p_ini);
+    let def = tri3::corners(p_def);
+    let rest = green_lagrange::rest_of(ini);
     let values = strains::values_of(rest.gd0, edges(def), rest.gu0_x.v, rest.gu0_y.v);
     let w = values.w;
     let dw = values.dw;

@@ -26,7 +26,7 @@ pub(crate) struct Values {
     pub dw: [f64; 27],
 }
 
-fn gd0(ini: Tri2) -> Gd
+pub(crate) fn gd0(ini: Tri2) -> Gd
     ensures { λ r. ⌜ r ≡ gd0Of binary64 ini ⌝ }
 {
     let x = V3 {
