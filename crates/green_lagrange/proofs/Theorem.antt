@@ -1,0 +1,189 @@
+-- The theorem of 01-scope 6.5: of a sheet in the family, read as fractions, the exact values are half of (F^T F - I).
+use mathlib.Core.Path.{_≡_, refl, sym, ap, _∙_}
+use mathlib.Core.Bool.{true, false, not, _&&_}
+use mathlib.Core.List.{List}
+use Prim.Native.Nat.{ℕ, _+_, _-_, _*_, _^_, _≤_, _<_}
+use native.Mathlib.Nat.{mul-pos, mul-le-mul}
+use native.Mathlib.Omega.{arith}
+use lib.Dec.{lit≤, lit<}
+use lib.Pow.{pow-add, pow-pos, pow-mono}
+use lib.Ieee.{Float, Format, binary64, prec, low}
+use lib.Ieee.Bits.{is-true}
+use lib.Ieee.Scale.{finite}
+use Rattle.float.specs.Lists.{_!_, every}
+use Rattle.float.proofs.Scan.{every-append}
+use Rattle.refusal.specs.Refusal.{accepted}
+use Rattle.rounding.specs.Exact.{Num, Equal, _⊞_, _⊟_, _⊠_, scale, signed, value}
+use Rattle.rounding.specs.Dyadic.{Dyad}
+use Rattle.rounding.specs.Whole.{unit}
+use Rattle.del_geo_core.specs.Tri2 as tri2
+use Rattle.del_geo_core.specs.Tri3 as tri3
+use Rattle.del_geo_core.specs.Vec3 as vec3
+use Rattle.del_geo_core.specs.declared.tri2.Tri2.{Tri2}
+use Rattle.del_geo_core.specs.declared.tri3.Tri3.{Tri3}
+use Rattle.del_geo_core.specs.declared.vec3.V3.{V3}
+use Rattle.stvk_tri3.specs.GreenLagrange.{restOf, IsGreenLagrange}
+use Rattle.stvk_tri3.specs.Edges.{edgesOf, glstrainOf}
+use Rattle.stvk_tri3.specs.Strain.{gd0Of, gugu0XxOf, gugu0YyOf, gugu0XyOf, wOf, dwOf, valuesOf, badInputOf, badAnswerOf}
+use Rattle.stvk_tri3.specs.declared.Strain.{Strain}
+use Rattle.stvk_tri3.proofs.GreenLagrangeAnswer.{numbers-exactly, accepted-values}
+use Rattle.green_lagrange.specs.Fraction.{Fraction, Same, _∕_, _∔_, _∸_, _⋅_, _÷_, exact}
+use Rattle.green_lagrange.specs.GreenLagrange.{transposeTimes, gradient, IsBook}
+use Rattle.green_lagrange.specs.Sheet.{isRest, isWhole}
+use Rattle.green_lagrange.proofs.Fraction.{Reads, reads-sum, reads-minus, reads-product, reads-over, reads-one, reads-none, reads-itself, reads-whole, same}
+use Rattle.green_lagrange.proofs.Vector.{Nums, one, none, eX, eY, eZ, dot, minus, Dyads}
+use Rattle.green_lagrange.proofs.Rest.{Small, points, divisors}
+use Rattle.green_lagrange.proofs.Values.{ones, Margins, Component, corners, xx, yy, xy}
+
+-- a column of F reads n / a, and a dot of two columns the dot of theirs
+record Column (p q r : Fraction) (n : Nums) (a : ℕ) : Type 0 where
+  x : Reads p (n .x) a
+  y : Reads q (n .y) a
+  z : Reads r (n .z) a
+
+dot-reads : {p q r s t u : Fraction} {n m : Nums} {a b : ℕ} → Column p q r n a → Column s t u m b → Reads (p ⋅ s ∔ q ⋅ t ∔ r ⋅ u) (dot n m) (a * b)
+dot-reads c d = reads-sum (reads-sum (reads-product (c .x) (d .x)) (reads-product (c .y) (d .y))) (reads-product (c .z) (d .z))
+
+column : (f : Format) (a : ℕ) → 0 < a → {p q : V3} {n o : Nums} {B C : ℕ} → Dyads f p (low f) n B → Dyads f q (low f) o C
+    → Column ((exact f (p .x) ∸ exact f (q .x)) ÷ a) ((exact f (p .y) ∸ exact f (q .y)) ÷ a) ((exact f (p .z) ∸ exact f (q .z)) ÷ a) (minus n o) a
+column f a a+ c d = record {
+  x = reads-over a a+ (reads-minus (reads-whole f _ (c .x)) (reads-whole f _ (d .x)));
+  y = reads-over a a+ (reads-minus (reads-whole f _ (c .y)) (reads-whole f _ (d .y)));
+  z = reads-over a a+ (reads-minus (reads-whole f _ (c .z)) (reads-whole f _ (d .z)));
+}
+
+-- what the factors along one axis leave of a dot
+first : (u d : ℕ) (v p q r : Num) → Equal (scale d v) (scale u (p ⊠ one ⊞ q ⊠ none ⊞ r ⊠ none)) → Equal (scale d v) (scale u (one ⊠ p))
+first u d v p q r e = omega (arith, e)
+
+second : (u d : ℕ) (v p q r : Num) → Equal (scale d v) (scale u (p ⊠ none ⊞ q ⊠ one ⊞ r ⊠ none)) → Equal (scale d v) (scale u (one ⊠ q))
+second u d v p q r e = omega (arith, e)
+
+third : (u d : ℕ) (v p q r : Num) → Equal (scale d v) (scale u (p ⊠ none ⊞ q ⊠ none ⊞ scale 2 r ⊠ one)) → Equal (scale (1 * d) v) (scale u (signed false 2 ⊠ (one ⊠ (r ⊟ none))))
+third u d v p q r e = omega (arith, e)
+
+good : {f : Format} {x : Float} {j : ℕ} {n : Num} {B : ℕ} → Dyad f x j n B → finite x ≡ true
+good a = is-true _ (a .number .fine)
+
+module _ (f : Format) {i j B S : ℕ} (m : Margins f i j B S) (pIni pDef : List (List Float)) {r : Strain} (is : IsGreenLagrange f pIni pDef r)
+    (rest : isRest f (2 ^ i) (2 ^ j) (tri2.cornersOf pIni) ≡ true) (deformed : isWhole f B (tri3.cornersOf pDef) ≡ true) where
+  abbrev ini : Tri2
+  ini = tri2.cornersOf pIni
+
+  abbrev def : Tri3
+  def = tri3.cornersOf pDef
+
+  abbrev a : ℕ
+  a = 2 ^ i
+
+  abbrev b : ℕ
+  b = 2 ^ j
+
+  a+ : 0 < a
+  a+ = pow-pos i
+
+  b+ : 0 < b
+  b+ = pow-pos j
+
+  abbrev d1 : Nums
+  d1 = minus (ones f (def .p1)) (ones f (def .p0))
+
+  abbrev d2 : Nums
+  d2 = minus (ones f (def .p2)) (ones f (def .p0))
+
+  column-x : let F = gradient f a b def in Column (F .xX) (F .yX) (F .zX) d1 a
+  column-x = let c = corners f m ini rest def deformed in column f a (pow-pos i) (c .1) (c .0)
+
+  column-y : let F = gradient f a b def in Column (F .xY) (F .yY) (F .zY) d2 b
+  column-y = let c = corners f m ini rest def deformed in column f b (pow-pos j) (c .2) (c .0)
+
+  abbrev gu0X : V3
+  gu0X = restOf f ini .«gu0_x» .v
+
+  abbrev gu0Y : V3
+  gu0Y = restOf f ini .«gu0_y» .v
+
+  abbrev gugu0Xx : V3
+  gugu0Xx = gugu0XxOf f gu0X gu0Y
+
+  abbrev gugu0Yy : V3
+  gugu0Yy = gugu0YyOf f gu0X gu0Y
+
+  abbrev gugu0Xy : V3
+  gugu0Xy = gugu0XyOf f gu0X gu0Y
+
+  abbrev glstrain : V3
+  glstrain = glstrainOf f (gd0Of f ini) (edgesOf f def)
+
+  x : Component f m ini rest def deformed gugu0Xx eX (a * a)
+  x = xx f m ini rest def deformed
+
+  y : Component f m ini rest def deformed gugu0Yy eY (b * b)
+  y = yy f m ini rest def deformed
+
+  z : Component f m ini rest def deformed gugu0Xy eZ (a * b)
+  z = xy f m ini rest def deformed
+
+  inputs-good : badInputOf ini def ≡ false
+  unfolding badInputOf tri2.isFiniteOf tri3.isFiniteOf vec3.isFiniteOf
+  inputs-good =
+      let p = points f i j (m .small) ini rest in
+      let c = corners f m ini rest def deformed in
+      rw (
+        good (p .0 .0),
+        good (p .0 .1),
+        good (p .1 .0),
+        good (p .1 .1),
+        good (p .2 .0),
+        good (p .2 .1),
+        good (c .0 .x),
+        good (c .0 .y),
+        good (c .0 .z),
+        good (c .1 .x),
+        good (c .1 .y),
+        good (c .1 .z),
+        good (c .2 .x),
+        good (c .2 .y),
+        good (c .2 .z),
+      )
+
+  answer-good : badAnswerOf (wOf f glstrain gugu0Xx gugu0Yy gugu0Xy) (dwOf f (edgesOf f def) gugu0Xx gugu0Yy gugu0Xy) ≡ false
+  unfolding badAnswerOf wOf dwOf every
+  answer-good = rw (x .fine, y .fine, z .fine, every-append, every-append, x .derivatives, y .derivatives, z .derivatives)
+
+  accepts : r .number ≡ accepted
+  unfolding restOf valuesOf
+  accepts = numbers-exactly f pIni pDef is .accepted-exactly .1 (inputs-good, divisors f i j (m .small) ini rest, answer-good)
+
+  w-is : r .w ≡ wOf f glstrain gugu0Xx gugu0Yy gugu0Xy
+  unfolding restOf valuesOf
+  w-is = accepted-values f pIni pDef is accepts .0
+
+  -- ---- THE law, over the format
+  pub book : IsBook f a b def r
+  unfolding wOf
+  book = record {
+    accepts = accepts;
+    xx = rw w-is (same f _ (mul-pos (lit≤ tt) (mul-pos a+ a+))
+        (reads-product (reads-itself 1 2 (lit≤ tt)) (reads-minus (dot-reads column-x column-x) (reads-one (a * a)))) (first (unit f) _ _ _ _ _ (x .is)));
+    yy = rw w-is (same f _ (mul-pos (lit≤ tt) (mul-pos b+ b+))
+        (reads-product (reads-itself 1 2 (lit≤ tt)) (reads-minus (dot-reads column-y column-y) (reads-one (b * b)))) (second (unit f) _ _ _ _ _ (y .is)));
+    xy = rw w-is (same f _ (mul-pos (lit≤ tt) (mul-pos (lit≤ tt) (mul-pos a+ b+)))
+        (reads-product (reads-itself 2 1 (lit≤ tt)) (reads-product (reads-itself 1 2 (lit≤ tt)) (reads-minus (dot-reads column-x column-y) (reads-none (a * b)))))
+        (third (unit f) _ _ _ _ _ (z .is)));
+  }
+
+-- ---- THE theorem of 01-scope 6.5: a and b are powers of two from 1 to 1,024
+margins : {i j : ℕ} → i ≤ 10 → j ≤ 10 → Margins binary64 i j 1024 1048576
+margins h k = record {
+  small = record { high = omega arith; deep = omega arith };
+  a² = mul-le-mul (pow-mono h) (pow-mono h);
+  b² = mul-le-mul (pow-mono k) (pow-mono k);
+  strains = lit< tt;
+  derivatives = lit< tt;
+}
+
+pub green-lagrange : (i j : ℕ) → i ≤ 10 → j ≤ 10 → (pIni pDef : List (List Float)) {r : Strain} → IsGreenLagrange binary64 pIni pDef r
+    → isRest binary64 (2 ^ i) (2 ^ j) (tri2.cornersOf pIni) ≡ true → isWhole binary64 1024 (tri3.cornersOf pDef) ≡ true
+    → IsBook binary64 (2 ^ i) (2 ^ j) (tri3.cornersOf pDef) r
+green-lagrange i j h k pIni pDef is rest deformed = book binary64 (margins h k) pIni pDef is rest deformed

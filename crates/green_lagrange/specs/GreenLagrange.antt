@@ -1,0 +1,60 @@
+-- The Green-Lagrange strain as books have it: of a sheet at rest on (0, 0), (a, 0) and (0, b), from its deformed corners, in exact fractions.
+use mathlib.Core.Path.{_≡_}
+use Prim.Native.Nat.{ℕ}
+use lib.Ieee.{Float, Format}
+use Rattle.float.specs.Lists.{_!_}
+use Rattle.refusal.specs.Refusal.{accepted}
+use Rattle.del_geo_core.specs.declared.tri3.Tri3.{Tri3}
+use Rattle.del_geo_core.specs.declared.vec3.V3.{V3}
+use Rattle.stvk_tri3.specs.declared.Strain.{Strain}
+use Rattle.green_lagrange.specs.Fraction.{Fraction, Same, _∕_, _∔_, _∸_, _⋅_, _÷_, exact}
+
+-- F = dx/dX, three rows for x, y, z in space, two columns for X and Y in the sheet
+pub record Gradient : Type 0 where
+  pub xX : Fraction
+  pub xY : Fraction
+  pub yX : Fraction
+  pub yY : Fraction
+  pub zX : Fraction
+  pub zY : Fraction
+
+-- a symmetric matrix in the sheet's own axes
+pub record Symmetric : Type 0 where
+  pub XX : Fraction
+  pub YY : Fraction
+  pub XY : Fraction
+
+-- F^T F: each entry is the product of two columns of F
+abbrev pub transposeTimes : Gradient → Symmetric
+transposeTimes F = record {
+  XX = F .xX ⋅ F .xX ∔ F .yX ⋅ F .yX ∔ F .zX ⋅ F .zX;
+  YY = F .xY ⋅ F .xY ∔ F .yY ⋅ F .yY ∔ F .zY ⋅ F .zY;
+  XY = F .xX ⋅ F .xY ∔ F .yX ⋅ F .yY ∔ F .zX ⋅ F .zY;
+}
+
+-- half of (F^T F - I), with the off-diagonal doubled
+abbrev pub greenLagrange : Gradient → Symmetric
+greenLagrange F = let C = transposeTimes F in record {
+  XX = (1 ∕ 2) ⋅ (C .XX ∸ (1 ∕ 1));
+  YY = (1 ∕ 2) ⋅ (C .YY ∸ (1 ∕ 1));
+  XY = (2 ∕ 1) ⋅ ((1 ∕ 2) ⋅ (C .XY ∸ (0 ∕ 1)));
+}
+
+module _ (f : Format) where
+  -- from corner 0 to corner 1 the sheet goes a along X, from corner 0 to corner 2 it goes b along Y
+  abbrev pub gradient : (a b : ℕ) (def : Tri3) → Gradient
+  gradient a b def = record {
+    xX = (exact f (def .p1 .x) ∸ exact f (def .p0 .x)) ÷ a;
+    xY = (exact f (def .p2 .x) ∸ exact f (def .p0 .x)) ÷ b;
+    yX = (exact f (def .p1 .y) ∸ exact f (def .p0 .y)) ÷ a;
+    yY = (exact f (def .p2 .y) ∸ exact f (def .p0 .y)) ÷ b;
+    zX = (exact f (def .p1 .z) ∸ exact f (def .p0 .z)) ÷ a;
+    zY = (exact f (def .p2 .z) ∸ exact f (def .p0 .z)) ÷ b;
+  }
+
+  -- of ANY answer r: accepted, and its three values are that strain
+  pub record IsBook (a b : ℕ) (def : Tri3) (r : Strain) : Type 0 where
+    pub accepts : r .number ≡ accepted
+    pub xx : Same (exact f (r .w ! 0)) (greenLagrange (gradient a b def) .XX)
+    pub yy : Same (exact f (r .w ! 1)) (greenLagrange (gradient a b def) .YY)
+    pub xy : Same (exact f (r .w ! 2)) (greenLagrange (gradient a b def) .XY)

@@ -1,0 +1,3 @@
+pub mod Fraction
+pub mod Sheet
+pub mod GreenLagrange

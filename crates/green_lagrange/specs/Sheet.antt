@@ -1,0 +1,25 @@
+-- The sheets of 01-scope 6.5, by plain tests of their numbers.
+use mathlib.Core.Bool.{Bool, _&&_}
+use Prim.Native.Nat.{ℕ}
+use lib.Ieee.{Float, Format}
+use Rattle.rounding.specs.Whole.{isWholeUpTo, isNatural}
+use Rattle.del_geo_core.specs.declared.tri2.Tri2.{Tri2}
+use Rattle.del_geo_core.specs.declared.tri2.V2.{V2}
+use Rattle.del_geo_core.specs.declared.tri3.Tri3.{Tri3}
+use Rattle.del_geo_core.specs.declared.vec3.V3.{V3}
+
+module _ (f : Format) where
+  -- the plane point (m, n)
+  abbrev pub isAt : (m n : ℕ) → V2 → Bool
+  isAt m n p = isNatural f m (p .x) && isNatural f n (p .y)
+
+  -- at rest on (0, 0), (a, 0) and (0, b)
+  abbrev pub isRest : (a b : ℕ) → Tri2 → Bool
+  isRest a b ini = isAt 0 0 (ini .p0) && isAt a 0 (ini .p1) && isAt 0 b (ini .p2)
+
+  -- a point in space with whole coordinates, B at most either side of zero
+  abbrev pub isWholePoint : (B : ℕ) → V3 → Bool
+  isWholePoint B p = isWholeUpTo f B (p .x) && isWholeUpTo f B (p .y) && isWholeUpTo f B (p .z)
+
+  abbrev pub isWhole : (B : ℕ) → Tri3 → Bool
+  isWhole B def = isWholePoint B (def .p0) && isWholePoint B (def .p1) && isWholePoint B (def .p2)
