@@ -21,6 +21,7 @@ use Rattle.plate.specs.Plate as plates
 use Rattle.mitc_tri3.specs.Plate as mitc
 use Rattle.mitc_tri3.specs.Masses.{cornersAt, namedFinite, badInputOf, massOf, addMasses, addAll, massesOf, numberOf, bufferOf}
 use Rattle.stvk_tri3.specs.Edges as edges
+use Rattle.stvk_tri3.specs.GreenLagrange as book
 use Rattle.stvk_tri3.specs.Strain as strain
 use Rattle.stvk_tri3.specs.Stvk as energy
 use Rattle.quadratic_bending.specs.Bending as bending
@@ -71,7 +72,7 @@ unfolding tableOf sub mul div ofBits toBits every tabled each fold foldThrees ro
     bend.deDtOf bend.bendingOf bend.t0s bend.strainOf bend.wOf shear.coeffaOf shear.coeffbOf shear.shearOf shear.rs shear.ss shear.strainOf shear.stressOf shear.wOf plates.gdOf
     plates.guGuOf plates.guOf plates.stateOf plates.accumulatedOf plates.wOf addVertex addTriangle cornersAt badLengthOf namedFinite badInputOf massOf addMasses addAll massesOf
     numberOf bufferOf edges.edgesOf edges.glstrainOf strain.badInputOf strain.zeroDivisorOf strain.badAnswerOf strain.gd0Of strain.restOf strain.gugu0XxOf strain.gugu0YyOf
-    strain.gugu0XyOf strain.wOf strain.hogeOf strain.dwKOf strain.dwOf strain.valuesOf strain.strainOf strain.wdwOf energy.alongOf energy.restOf energy.glstrainOf energy.gugu0Of
+    strain.gugu0XyOf strain.wOf strain.hogeOf strain.dwKOf strain.dwOf strain.valuesOf strain.strainOf strain.wdwOf book.restOf book.wdwGreenLagrangeOf energy.alongOf energy.restOf energy.glstrainOf energy.gugu0Of
     energy.elasticityTensorOf energy.stateOf energy.wOf energy.dNdrOf energy.dwAtOf energy.dwOf bending.isFiniteOf bending.zeroDivisorOf bending.divisorsOf bending.kOf bending.wOf
     bending.dwdpOf bending.bendingOf bending.wdwOf
 numbers-given = refl
