@@ -1,6 +1,6 @@
 -- Powers of two and zeros among the floats: a natural number 2 ^ i is 1 at the grain low + i, and nothing is nothing at every grain.
 use mathlib.Core.Path.{_≡_, refl, sym, ap, _∙_}
-use mathlib.Core.Bool.{Bool, true, false}
+use mathlib.Core.Bool.{false}
 use Prim.Native.Nat.{ℕ, zero, suc, _+_, _*_, _^_, _≤_, _<_}
 use native.Mathlib.Nat.{mul-pos}
 use native.Mathlib.Omega.{arith}
@@ -14,7 +14,7 @@ use Rattle.float.specs.Ops.{Ops, ops}
 use Rattle.float.proofs.Value.{rescale, no-zero}
 use Rattle.root.specs.Root.{rootOf}
 use Rattle.root.proofs.Square.{square}
-use Rattle.rounding.specs.Exact.{Equal, scale, signed, mag, value}
+use Rattle.rounding.specs.Exact.{signed}
 use Rattle.rounding.specs.Dyadic.{Dyad, Room}
 use Rattle.rounding.proofs.Dyadic.{dyad-as, dyad-div}
 use Rattle.rounding.proofs.Value.{known, positive-value}

@@ -1,10 +1,9 @@
 -- The rest triangle on (0, 0), (2 ^ i, 0), (0, 2 ^ j): its edges, its normal and its contravariant vectors lie along the axes, with lengths that are powers of two.
 use mathlib.Core.Path.{_≡_, refl}
-use mathlib.Core.Bool.{true, false, _&&_, _||_}
+use mathlib.Core.Bool.{true, false, _&&_}
 use Prim.Native.Nat.{ℕ, suc, _+_, _-_, _*_, _^_, _≤_, _<_}
 use native.Mathlib.Omega.{arith}
-use lib.Dec.{lit≤}
-use lib.Ieee.{Float, Format, binary32, binary64, prec, emax, low}
+use lib.Ieee.{Format, prec, emax, low}
 use Rattle.float.specs.Numbers.{isZero}
 use Rattle.float.proofs.Scan.{both}
 use Rattle.rounding.specs.Exact.{signed}
@@ -13,7 +12,7 @@ use Rattle.rounding.specs.Whole.{isNatural}
 use Rattle.rounding.proofs.Dyadic.{dyad-sub}
 use Rattle.rounding.proofs.Whole.{natural, zero-dyad}
 use Rattle.del_geo_core.specs.CurveLinearCoords.{contravariantOf}
-use Rattle.del_geo_core.specs.Vec3.{normOf, overOf, unitOf, crossOf, dotOf}
+use Rattle.del_geo_core.specs.Vec3.{normOf, overOf, unitOf, crossOf}
 use Rattle.del_geo_core.specs.declared.tri2.Tri2.{Tri2}
 use Rattle.del_geo_core.specs.declared.tri2.V2.{V2}
 use Rattle.del_geo_core.specs.declared.vec3.V3.{V3}

@@ -1,19 +1,19 @@
--- The theorem of 01-scope 6.5: of a sheet in the family, read as fractions, the exact values are half of (F^T F - I).
-use mathlib.Core.Path.{_≡_, refl, sym, ap, _∙_}
-use mathlib.Core.Bool.{true, false, not, _&&_}
+-- The theorem of 01-scope 6.5: a sheet of the family is accepted, and its exact values read the same as half of (F^T F - I), the off-diagonal doubled.
+use mathlib.Core.Path.{_≡_}
+use mathlib.Core.Bool.{true, false}
 use mathlib.Core.List.{List}
-use Prim.Native.Nat.{ℕ, _+_, _-_, _*_, _^_, _≤_, _<_}
+use Prim.Native.Nat.{ℕ, _*_, _^_, _≤_, _<_}
 use native.Mathlib.Nat.{mul-pos, mul-le-mul}
 use native.Mathlib.Omega.{arith}
 use lib.Dec.{lit≤, lit<}
-use lib.Pow.{pow-add, pow-pos, pow-mono}
-use lib.Ieee.{Float, Format, binary64, prec, low}
+use lib.Pow.{pow-pos, pow-mono}
+use lib.Ieee.{Float, Format, binary64}
 use lib.Ieee.Bits.{is-true}
 use lib.Ieee.Scale.{finite}
-use Rattle.float.specs.Lists.{_!_, every}
+use Rattle.float.specs.Lists.{every}
 use Rattle.float.proofs.Scan.{every-append}
 use Rattle.refusal.specs.Refusal.{accepted}
-use Rattle.rounding.specs.Exact.{Num, Equal, _⊞_, _⊟_, _⊠_, scale, signed, value}
+use Rattle.rounding.specs.Exact.{Num, Equal, _⊞_, _⊟_, _⊠_, scale, signed}
 use Rattle.rounding.specs.Dyadic.{Dyad}
 use Rattle.rounding.specs.Whole.{unit}
 use Rattle.del_geo_core.specs.Tri2 as tri2
@@ -22,37 +22,20 @@ use Rattle.del_geo_core.specs.Vec3 as vec3
 use Rattle.del_geo_core.specs.declared.tri2.Tri2.{Tri2}
 use Rattle.del_geo_core.specs.declared.tri3.Tri3.{Tri3}
 use Rattle.del_geo_core.specs.declared.vec3.V3.{V3}
-use Rattle.stvk_tri3.specs.GreenLagrange.{restOf, IsGreenLagrange}
 use Rattle.stvk_tri3.specs.Edges.{edgesOf, glstrainOf}
-use Rattle.stvk_tri3.specs.Strain.{gd0Of, gugu0XxOf, gugu0YyOf, gugu0XyOf, wOf, dwOf, valuesOf, badInputOf, badAnswerOf}
+use Rattle.stvk_tri3.specs.GreenLagrange.{restOf, IsGreenLagrange}
+use Rattle.stvk_tri3.specs.Strain.{badInputOf, badAnswerOf, gd0Of, gugu0XxOf, gugu0YyOf, gugu0XyOf, wOf, dwOf, valuesOf}
 use Rattle.stvk_tri3.specs.declared.Strain.{Strain}
 use Rattle.stvk_tri3.proofs.GreenLagrangeAnswer.{numbers-exactly, accepted-values}
-use Rattle.green_lagrange.specs.Fraction.{Fraction, Same, _∕_, _∔_, _∸_, _⋅_, _÷_, exact}
-use Rattle.green_lagrange.specs.GreenLagrange.{transposeTimes, gradient, IsBook}
+use Rattle.green_lagrange.specs.GreenLagrange.{Gradient, gradient, IsBook}
 use Rattle.green_lagrange.specs.Sheet.{isRest, isWhole}
-use Rattle.green_lagrange.proofs.Fraction.{Reads, reads-sum, reads-minus, reads-product, reads-over, reads-one, reads-none, reads-itself, reads-whole, same}
-use Rattle.green_lagrange.proofs.Vector.{Nums, one, none, eX, eY, eZ, dot, minus, Dyads}
-use Rattle.green_lagrange.proofs.Rest.{Small, points, divisors}
-use Rattle.green_lagrange.proofs.Values.{ones, Margins, Component, corners, xx, yy, xy}
+use Rattle.green_lagrange.proofs.Fraction.{reads-minus, reads-product, reads-one, reads-none, reads-itself, same}
+use Rattle.green_lagrange.proofs.Gradient.{Column, dot-reads, column}
+use Rattle.green_lagrange.proofs.Vector.{one, none, eX, eY, eZ}
+use Rattle.green_lagrange.proofs.Rest.{points, divisors}
+use Rattle.green_lagrange.proofs.Values.{edge, Margins, Component, corners, xx, yy, xy}
 
--- a column of F reads n / a, and a dot of two columns the dot of theirs
-record Column (p q r : Fraction) (n : Nums) (a : ℕ) : Type 0 where
-  x : Reads p (n .x) a
-  y : Reads q (n .y) a
-  z : Reads r (n .z) a
-
-dot-reads : {p q r s t u : Fraction} {n m : Nums} {a b : ℕ} → Column p q r n a → Column s t u m b → Reads (p ⋅ s ∔ q ⋅ t ∔ r ⋅ u) (dot n m) (a * b)
-dot-reads c d = reads-sum (reads-sum (reads-product (c .x) (d .x)) (reads-product (c .y) (d .y))) (reads-product (c .z) (d .z))
-
-column : (f : Format) (a : ℕ) → 0 < a → {p q : V3} {n o : Nums} {B C : ℕ} → Dyads f p (low f) n B → Dyads f q (low f) o C
-    → Column ((exact f (p .x) ∸ exact f (q .x)) ÷ a) ((exact f (p .y) ∸ exact f (q .y)) ÷ a) ((exact f (p .z) ∸ exact f (q .z)) ÷ a) (minus n o) a
-column f a a+ c d = record {
-  x = reads-over a a+ (reads-minus (reads-whole f _ (c .x)) (reads-whole f _ (d .x)));
-  y = reads-over a a+ (reads-minus (reads-whole f _ (c .y)) (reads-whole f _ (d .y)));
-  z = reads-over a a+ (reads-minus (reads-whole f _ (c .z)) (reads-whole f _ (d .z)));
-}
-
--- what the factors along one axis leave of a dot
+-- what the factors along one axis leave of a dot: the strains along the edges one by one, as the fractions have them
 first : (u d : ℕ) (v p q r : Num) → Equal (scale d v) (scale u (p ⊠ one ⊞ q ⊠ none ⊞ r ⊠ none)) → Equal (scale d v) (scale u (one ⊠ p))
 first u d v p q r e = omega (arith, e)
 
@@ -85,17 +68,14 @@ module _ (f : Format) {i j B S : ℕ} (m : Margins f i j B S) (pIni pDef : List 
   b+ : 0 < b
   b+ = pow-pos j
 
-  abbrev d1 : Nums
-  d1 = minus (ones f (def .p1)) (ones f (def .p0))
+  abbrev F : Gradient
+  F = gradient f a b def
 
-  abbrev d2 : Nums
-  d2 = minus (ones f (def .p2)) (ones f (def .p0))
+  column-x : Column (F .xX) (F .yX) (F .zX) (edge f (def .p0) (def .p1)) a
+  column-x = let c = corners f m ini rest def deformed in column f a a+ (c .1) (c .0)
 
-  column-x : let F = gradient f a b def in Column (F .xX) (F .yX) (F .zX) d1 a
-  column-x = let c = corners f m ini rest def deformed in column f a (pow-pos i) (c .1) (c .0)
-
-  column-y : let F = gradient f a b def in Column (F .xY) (F .yY) (F .zY) d2 b
-  column-y = let c = corners f m ini rest def deformed in column f b (pow-pos j) (c .2) (c .0)
+  column-y : Column (F .xY) (F .yY) (F .zY) (edge f (def .p0) (def .p2)) b
+  column-y = let c = corners f m ini rest def deformed in column f b b+ (c .2) (c .0)
 
   abbrev gu0X : V3
   gu0X = restOf f ini .«gu0_x» .v

@@ -6,7 +6,7 @@ use native.Mathlib.Nat.{mul-le-mul-left, lt-of-le-of-lt}
 use native.Mathlib.Omega.{arith}
 use lib.Dec.{lit≤}
 use lib.Pow.{pow-add}
-use lib.Ieee.{Float, Format, prec, low, neg}
+use lib.Ieee.{Float, Format, prec, low}
 use lib.Ieee.Bits.{is-true}
 use lib.Ieee.Scale.{finite}
 use Rattle.float.specs.Lists.{every, allFinite}
@@ -18,7 +18,7 @@ use Rattle.rounding.specs.Whole.{unit, isWholeUpTo}
 use Rattle.rounding.proofs.Nearest.{top-digit}
 use Rattle.rounding.proofs.Dyadic.{whole-room, dyad-as, dyad-neg, dyad-add, dyad-sub, dyad-mul}
 use Rattle.rounding.proofs.Whole.{whole, coordinate, half-dyad, two-dyad}
-use Rattle.del_geo_core.specs.Vec3.{dotOf, subOf}
+use Rattle.del_geo_core.specs.Vec3.{dotOf}
 use Rattle.del_geo_core.specs.declared.tri2.Tri2.{Tri2}
 use Rattle.del_geo_core.specs.declared.tri3.Tri3.{Tri3}
 use Rattle.del_geo_core.specs.declared.vec3.V3.{V3}
@@ -31,16 +31,21 @@ use Rattle.green_lagrange.proofs.Rest.{Small, room, edge-x, edge-y, gu0
 use Rattle.green_lagrange.proofs.Vector.{Nums, one, none, eX, eY, eZ, dot, minus, Dyads, sub-exact, dot-exact}
 
 -- a deformed corner, counted in ones
-abbrev pub ones : Format → V3 → Nums
+abbrev ones : Format → V3 → Nums
 ones f p = record { x = whole f (p .x); y = whole f (p .y); z = whole f (p .z) }
 
-pub corner : (f : Format) (B : ℕ) (p : V3) → isWholePoint f B p ≡ true → Dyads f p (low f) (ones f p) B
+-- from one corner to another
+abbrev pub edge : Format → (p q : V3) → Nums
+edge f p q = minus (ones f q) (ones f p)
+
+corner : (f : Format) (B : ℕ) (p : V3) → isWholePoint f B p ≡ true → Dyads f p (low f) (ones f p) B
 corner f B p e =
     let t = both (isWholeUpTo f B (p .x) && isWholeUpTo f B (p .y)) _ e in
     let u = both (isWholeUpTo f B (p .x)) _ (t .0) in
     record { x = coordinate f B _ (u .0); y = coordinate f B _ (u .1); z = coordinate f B _ (t .1) }
 
--- the digits suffice: 2 B bounds an edge's coordinates, S the squares of a and b
+-- the digits suffice, where B bounds the corners' coordinates and S the squares of a and b: a strain along the edges has at most six products of two edges' coordinates in it and one square, and a
+-- value is three of them times factors of size 32 at most; a derivative is two products of 64 at most by an edge's coordinate
 pub record Margins (f : Format) (i j B S : ℕ) : Type 0 where
   pub small : Small f i j
   pub a² : 2 ^ i * 2 ^ i ≤ S
@@ -66,11 +71,11 @@ module _ (f : Format) {i j B S : ℕ} (m : Margins f i j B S) (ini : Tri2) (rest
   G< : 96 * G < 2 ^ prec f
   G< = m .strains
 
-  abbrev pub d1 : Nums
-  d1 = minus (ones f (def .p1)) (ones f (def .p0))
+  abbrev d1 : Nums
+  d1 = edge f (def .p0) (def .p1)
 
-  abbrev pub d2 : Nums
-  d2 = minus (ones f (def .p2)) (ones f (def .p0))
+  abbrev d2 : Nums
+  d2 = edge f (def .p0) (def .p2)
 
   pub corners : Dyads f (def .p0) l (ones f (def .p0)) B × Dyads f (def .p1) l (ones f (def .p1)) B × Dyads f (def .p2) l (ones f (def .p2)) B
   corners =
@@ -102,7 +107,7 @@ module _ (f : Format) {i j B S : ℕ} (m : Margins f i j B S) (ini : Tri2) (rest
   halved : {x : Float} {n : Num} {C : ℕ} → C < 2 ^ prec f → Dyad f x l n C → Dyad f (half ⊗ x) (l - 1) n C
   halved h a = dyad-as (dyad-mul f (l - 1) refl (room f i j (m .small) (l - 1) (omega arith)) (half-dyad f) a (omega (arith, h))) (omega arith) (a .small)
 
-  abbrev pub gl : Nums
+  abbrev gl : Nums
   gl = record { x = dot d1 d1 ⊟ signed false (2 ^ i * 2 ^ i); y = dot d2 d2 ⊟ signed false (2 ^ j * 2 ^ j); z = scale 2 (dot d1 d2) }
 
   abbrev glstrain : V3

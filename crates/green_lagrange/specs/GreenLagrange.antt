@@ -1,11 +1,10 @@
 -- The Green-Lagrange strain as books have it: of a sheet at rest on (0, 0), (a, 0) and (0, b), from its deformed corners, in exact fractions.
 use mathlib.Core.Path.{_≡_}
 use Prim.Native.Nat.{ℕ}
-use lib.Ieee.{Float, Format}
+use lib.Ieee.{Format}
 use Rattle.float.specs.Lists.{_!_}
 use Rattle.refusal.specs.Refusal.{accepted}
 use Rattle.del_geo_core.specs.declared.tri3.Tri3.{Tri3}
-use Rattle.del_geo_core.specs.declared.vec3.V3.{V3}
 use Rattle.stvk_tri3.specs.declared.Strain.{Strain}
 use Rattle.green_lagrange.specs.Fraction.{Fraction, Same, _∕_, _∔_, _∸_, _⋅_, _÷_, exact}
 

@@ -1,3 +1,4 @@
 pub mod Fraction
 pub mod Sheet
 pub mod GreenLagrange
+pub mod Example

@@ -1,7 +1,7 @@
 -- The sheets of 01-scope 6.5, by plain tests of their numbers.
 use mathlib.Core.Bool.{Bool, _&&_}
 use Prim.Native.Nat.{ℕ}
-use lib.Ieee.{Float, Format}
+use lib.Ieee.{Format}
 use Rattle.rounding.specs.Whole.{isWholeUpTo, isNatural}
 use Rattle.del_geo_core.specs.declared.tri2.Tri2.{Tri2}
 use Rattle.del_geo_core.specs.declared.tri2.V2.{V2}

@@ -2,7 +2,7 @@
 use mathlib.Core.Path.{_≡_, sym, ap, _∙_}
 use mathlib.Core.Bool.{Bool, false}
 use Prim.Native.Nat.{ℕ, zero, suc, _+_, _-_, _*_, _^_, _≤_, _<_}
-use native.Mathlib.Nat.{mul-pos, mul-le-mul, mul-le-mul-right, lt-of-lt-of-le, zero-lt-suc}
+use native.Mathlib.Nat.{mul-pos, mul-le-mul, mul-le-mul-right, zero-lt-suc}
 use native.Mathlib.Omega.{arith}
 use lib.Dec.{T}
 use lib.IntN.{ℤ}
@@ -10,9 +10,9 @@ use lib.Pow.{pow-add, pow-pos, shl-lt}
 use lib.Ieee.{Float, nan, inf, fin, Format, prec, low, up, down, size, hid, fits}
 use lib.Ieee.Digits.{size-lt, size-le, size-reaches}
 use lib.Ieee.Exact.{HasValue}
-use lib.Ieee.Fits.{two, down-pos}
+use lib.Ieee.Fits.{down-pos}
 use Rattle.float.proofs.Value.{rescale, fractions-agree, written, place, no-zero}
-use Rattle.root.specs.Root.{Close, Nearest, rootOf}
+use Rattle.root.specs.Root.{Nearest, rootOf}
 use Rattle.root.proofs.Core.{stays}
 use Rattle.root.proofs.Rule.{powers, double, Rounded, found, by-nearest}
 use Rattle.root.proofs.RootOf.{size-gt, is-rootOf}
