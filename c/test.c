@@ -104,6 +104,22 @@ static void strain(void) {
     check("strain refuses a flat triangle", number == DEL_FEM_ZERO_DIVISOR && all_plus_zero(values, DEL_FEM_STRAIN_VALUES));
 }
 
+static void green_lagrange(void) {
+    const double ini[3][2] = {{0, 0}, {2, 0}, {0, 1}};
+    const double def[3][3] = {{0, 0, 0}, {4, 0, 0}, {0, 1, 0}};
+    const double flat[3][2] = {{0, 0}, {1, 0}, {2, 0}};
+    double values[DEL_FEM_STRAIN_VALUES + 1];
+    uint32_t number = stvk_tri3_wdw(ini, def, values);
+    check("strain, example 14", number == DEL_FEM_ACCEPTED && values[0] == 6 && values[1] == 0 && values[2] == 0);
+    scribble(values, DEL_FEM_STRAIN_VALUES + 1);
+    number = stvk_tri3_wdw_green_lagrange(ini, def, values);
+    check("Green-Lagrange strain, example 15", number == DEL_FEM_ACCEPTED && values[0] == 1.5 && values[1] == 0 && values[2] == 0);
+    check("Green-Lagrange strain, xx by x of corners 0, 1 and 2", values[3] == -1 && values[6] == 1 && values[9] == 0);
+    check("Green-Lagrange strain writes no further", untouched(values + DEL_FEM_STRAIN_VALUES, 1));
+    number = stvk_tri3_wdw_green_lagrange(flat, def, values);
+    check("Green-Lagrange strain refuses a flat triangle", number == DEL_FEM_ZERO_DIVISOR && all_plus_zero(values, DEL_FEM_STRAIN_VALUES));
+}
+
 static void stvk(void) {
     const double p0[3][3] = {{0, 0, 0}, {1, 0, 0}, {0, 1, 0}};
     const double p1[3][3] = {{0, 0, 0}, {2, 0, 0}, {0, 1, 0}};
@@ -339,6 +355,7 @@ int main(void) {
     roots();
     bending();
     strain();
+    green_lagrange();
     stvk();
     plate();
     masses();

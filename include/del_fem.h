@@ -11,7 +11,7 @@
  *   - floating point is as a program starts with it: rounding to nearest, no exception unmasked (a kernel divides before it refuses), subnormal numbers not flushed to zero (a program that is
  *     linked with -ffast-math may flush them). Exception flags may be left raised.
  *
- * A kernel (the four with `values`) returns its number and fills all of `values`, whatever was in them: the answer's numbers in the order stated where it returns 0, +0 throughout where it refuses.
+ * A kernel (the five with `values`) returns its number and fills all of `values`, whatever was in them: the answer's numbers in the order stated where it returns 0, +0 throughout where it refuses.
  * ISO C before C23 lets only arrays that are themselves const pass for `const double p[3][2]`; compilers complain about others under -pedantic alone.
  */
 #ifndef DEL_FEM_H
@@ -66,6 +66,14 @@ uint32_t quadratic_bending_wdw(const double p_ini[4][3], const double p_def[4][3
  * Returns 3; 4 where twice the rest area or a contravariant vector's norm is zero; 5; else 0.
  */
 uint32_t stvk_tri3_wdw(const double p_ini[3][2], const double p_def[3][3], double values[DEL_FEM_STRAIN_VALUES]);
+
+/*
+ * The Green-Lagrange strain of such a triangle in the sheet's own axes, (F^T F - I) / 2 with the off-diagonal doubled, and its derivatives (01-scope 5.10). stvk_tri3_wdw gives that only where
+ * the heights on both edges at corner 0 are 1.
+ * values: xx, yy and xy at 0, 1, 2, as w above; dw as above.
+ * Returns 3; 4 where the rest normal's norm or a dot that scales a contravariant vector is zero; 5; else 0.
+ */
+uint32_t stvk_tri3_wdw_green_lagrange(const double p_ini[3][2], const double p_def[3][3], double values[DEL_FEM_STRAIN_VALUES]);
 
 /*
  * The StVK energy of a triangle with the corners p0 at rest and p1 deformed, its gradient and Hessian by p1, for the Lame parameters lambda and myu (01-scope 5.5). No thickness enters.

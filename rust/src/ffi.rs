@@ -18,6 +18,11 @@ extern "C" {
         p_def: *const [[f64; 3]; 3],
         values: *mut [f64; STRAIN_VALUES],
     ) -> u32;
+    pub fn stvk_tri3_wdw_green_lagrange(
+        p_ini: *const [[f64; 2]; 3],
+        p_def: *const [[f64; 3]; 3],
+        values: *mut [f64; STRAIN_VALUES],
+    ) -> u32;
     pub fn stvk_tri3_wdwddw_(
         p0: *const [[f64; 3]; 3],
         p1: *const [[f64; 3]; 3],

@@ -1,8 +1,8 @@
 //! Energies, strains and masses of thin triangles, under the names and in the shapes of nobuyuki83/del-fem.
 //!
 //! Every routine is a safe call of a proved function (`../include/del_fem.h` says what each gives, `../docs/01-scope.md` by which rules). Where the original would
-//! panic or give numbers that mean nothing, the answer is a [`Refusal`]. Two modules are not the original's: [`skin`] adds up what [`stvk_tri3::wdwddw_`] gives for many
-//! triangles, and [`mesh`] reads points and triangles from a file.
+//! panic or give numbers that mean nothing, the answer is a [`Refusal`]. Not the original's are two modules, [`skin`], which adds up what [`stvk_tri3::wdwddw_`] gives for many
+//! triangles, and [`mesh`], which reads points and triangles from a file; and [`stvk_tri3::wdw_green_lagrange`], a second strain.
 
 mod ffi;
 pub mod mesh;

@@ -8,7 +8,8 @@ use Rattle.float.proofs.Unique.{only}
 use Rattle.skin.specs.declared.Skin.{Skin}
 use Rattle.skin.proofs.SkinAnswer.{unique}
 use Rattle.mesh.specs.declared.Mesh.{Mesh}
-use Rattle.del_fem.specs.Exports.{IsBendingExport, IsStrainExport, IsStvkExport, IsPlateExport, IsSkinExport, IsMeshExport, pointsAt, cellsAt, GivesBlock, IsPointsExport, IsCellsExport}
+use Rattle.del_fem.specs.Exports.{IsBendingExport, IsStrainExport, IsGreenLagrangeExport, IsStvkExport, IsPlateExport, IsSkinExport}
+use Rattle.del_fem.specs.Exports.{IsMeshExport, pointsAt, cellsAt, GivesBlock, IsPointsExport, IsCellsExport}
 
 module _ {r q : ℕ} {v w : List Float} where
   same : {number : ℕ} {values : List Float} → (r ≡ number) × (v ≡ values) → (q ≡ number) × (w ≡ values) → (r ≡ q) × (v ≡ w)
@@ -20,6 +21,9 @@ module _ {r q : ℕ} {v w : List Float} where
 
     pub strain : (pIni pDef : List (List Float)) → IsStrainExport f pIni pDef r v → IsStrainExport f pIni pDef q w → (r ≡ q) × (v ≡ w)
     strain pIni pDef = same
+
+    pub green-lagrange : (pIni pDef : List (List Float)) → IsGreenLagrangeExport f pIni pDef r v → IsGreenLagrangeExport f pIni pDef q w → (r ≡ q) × (v ≡ w)
+    green-lagrange pIni pDef = same
 
     pub stvk : (p0 p1 : List (List Float)) (lambda myu : Float) → IsStvkExport f p0 p1 lambda myu r v → IsStvkExport f p0 p1 lambda myu q w → (r ≡ q) × (v ≡ w)
     stvk p0 p1 lambda myu = same

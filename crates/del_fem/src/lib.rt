@@ -7,8 +7,8 @@ ghost use lib.Seq.{paste};
 ghost use Rattle.root.specs.Root.{SquareRoot, SquareRootWord};
 ghost use Rattle.mitc_tri3.specs.Masses.{IsMasses};
 ghost use Rattle.mesh.specs.Blocks.{IsCoordinate, IsName};
-ghost use Rattle.del_fem.specs.Exports.{GivesBending, GivesStrain, GivesEnergy, IsBendingExport, IsStrainExport, IsStvkExport, IsPlateExport, IsSkinExport};
-ghost use Rattle.del_fem.specs.Exports.{IsMeshExport, IsPointsExport, IsCellsExport};
+ghost use Rattle.del_fem.specs.Exports.{GivesBending, GivesStrain, GivesEnergy, IsBendingExport, IsStrainExport, IsGreenLagrangeExport, IsStvkExport, IsPlateExport};
+ghost use Rattle.del_fem.specs.Exports.{IsSkinExport, IsMeshExport, IsPointsExport, IsCellsExport};
 use mesh::Mesh;
 use quadratic_bending::Bending;
 use refusal::Energy;
@@ -87,6 +87,18 @@ pub extern "C" fn stvk_tri3_wdw(
     ensures { λ r. ⌜ IsStrainExport binary64 (now («p_ini» .entry)) (now («p_def» .entry)) r (now (values .exit)) ⌝ }
 {
     put_strain(stvk_tri3::wdw(*p_ini, *p_def), values)
+}
+
+// The three of the Green-Lagrange strain, then their 27 derivatives.
+#[no_mangle]
+pub extern "C" fn stvk_tri3_wdw_green_lagrange(
+    p_ini: &[[f64; 2]; 3],
+    p_def: &[[f64; 3]; 3],
+    values: &mut [f64; 30],
+) -> u32
+    ensures { λ r. ⌜ IsGreenLagrangeExport binary64 (now («p_ini» .entry)) (now («p_def» .entry)) r (now (values .exit)) ⌝ }
+{
+    put_strain(stvk_tri3::wdw_green_lagrange(*p_ini, *p_def), values)
 }
 
 // The StVK energy, its gradient of 9, its Hessian of 81.
