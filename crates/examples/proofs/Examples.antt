@@ -72,9 +72,9 @@ unfolding tableOf sub mul div ofBits toBits every tabled each fold foldThrees ro
     bend.deDtOf bend.bendingOf bend.t0s bend.strainOf bend.wOf shear.coeffaOf shear.coeffbOf shear.shearOf shear.rs shear.ss shear.strainOf shear.stressOf shear.wOf plates.gdOf
     plates.guGuOf plates.guOf plates.stateOf plates.accumulatedOf plates.wOf addVertex addTriangle cornersAt badLengthOf namedFinite badInputOf massOf addMasses addAll massesOf
     numberOf bufferOf edges.edgesOf edges.glstrainOf strain.badInputOf strain.zeroDivisorOf strain.badAnswerOf strain.gd0Of strain.restOf strain.gugu0XxOf strain.gugu0YyOf
-    strain.gugu0XyOf strain.wOf strain.hogeOf strain.dwKOf strain.dwOf strain.valuesOf strain.strainOf strain.wdwOf book.restOf book.wdwGreenLagrangeOf energy.alongOf energy.restOf energy.glstrainOf energy.gugu0Of
-    energy.elasticityTensorOf energy.stateOf energy.wOf energy.dNdrOf energy.dwAtOf energy.dwOf bending.isFiniteOf bending.zeroDivisorOf bending.divisorsOf bending.kOf bending.wOf
-    bending.dwdpOf bending.bendingOf bending.wdwOf
+    strain.gugu0XyOf strain.wOf strain.hogeOf strain.dwKOf strain.dwOf strain.valuesOf strain.strainOf strain.wdwOf book.restOf book.wdwGreenLagrangeOf energy.alongOf
+    energy.restOf energy.glstrainOf energy.gugu0Of energy.elasticityTensorOf energy.stateOf energy.wOf energy.dNdrOf energy.dwAtOf energy.dwOf bending.isFiniteOf bending.zeroDivisorOf
+    bending.divisorsOf bending.kOf bending.wOf bending.dwdpOf bending.bendingOf bending.wdwOf
 numbers-given = refl
 
 -- THE theorem of the marked examples

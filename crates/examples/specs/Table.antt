@@ -15,6 +15,7 @@ use Rattle.del_geo_core.specs.declared.tri3.Tri3.{Tri3}
 use Rattle.mitc_tri3.specs.Example.{points, thick, rho}
 use Rattle.mitc_tri3.specs.Masses.{numberOf, bufferOf}
 use Rattle.mitc_tri3.specs.Plate.{wDwDdwPlateBendingOf}
+use Rattle.stvk_tri3.specs.Example.{atRest, pulled}
 use Rattle.stvk_tri3.specs.GreenLagrange.{wdwGreenLagrangeOf}
 use Rattle.stvk_tri3.specs.Strain as strain
 use Rattle.stvk_tri3.specs.Stvk.{wdwddwOf}
@@ -78,18 +79,12 @@ stvk = wdwddwOf binary64 p0 p1 (double +0) (double +1)
 abbrev strains : Strain
 strains = strain.wdwOf binary64 p p1
 
--- 14 and 15, a sheet of length 2 in x, pulled to twice that: both strains
-abbrev long : Tri2
-long = tri2.cornersOf (doubles (+0 ∷ +0 ∷ []) ∷ doubles (+2 ∷ +0 ∷ []) ∷ doubles (+0 ∷ +1 ∷ []) ∷ [])
-
-abbrev pulled : Tri3
-pulled = tri3.cornersOf (doubles (+0 ∷ +0 ∷ +0 ∷ []) ∷ doubles (+4 ∷ +0 ∷ +0 ∷ []) ∷ doubles (+0 ∷ +1 ∷ +0 ∷ []) ∷ [])
-
+-- 14 and 15: both strains of one sheet
 abbrev ported : Strain
-ported = strain.wdwOf binary64 long pulled
+ported = strain.wdwOf binary64 (tri2.cornersOf atRest) (tri3.cornersOf pulled)
 
 abbrev book : Strain
-book = wdwGreenLagrangeOf binary64 long pulled
+book = wdwGreenLagrangeOf binary64 (tri2.cornersOf atRest) (tri3.cornersOf pulled)
 
 abbrev bends : Bending
 bends =
@@ -147,9 +142,9 @@ tableOf plate2 plate0 stvk =
     ∷ (strains .number ∷ words (strains .w)) is (0 ∷ 0x3ff8_0000_0000_0000 ∷ +0 ∷ +0 ∷ [])
     -- 11. bending: third value
     ∷ (bends .number ∷ word (bends .w ! 2) ∷ []) is (0 ∷ 0xbfeb_b67a_e858_4caa ∷ [])
-    -- 14. the ported strain of a sheet of length 2, pulled to 4: 6, 0, 0
+    -- 14. the strain of a sheet of length 2, pulled to 4: 6, 0, 0
     ∷ (ported .number ∷ words (ported .w)) is (0 ∷ +6 ∷ +0 ∷ +0 ∷ [])
-    -- 15. its Green-Lagrange strain: 1.5, 0, 0
+    -- 15. the book's strain of that pair: 1.5, 0, 0
     ∷ (book .number ∷ words (book .w)) is (0 ∷ 0x3ff8_0000_0000_0000 ∷ +0 ∷ +0 ∷ [])
     ∷ []
 

@@ -6,11 +6,12 @@ use native.Mathlib.Nat.{mul-pos, eq-of-mul-eq-mul-right}
 use native.Mathlib.Omega.{arith}
 use lib.Ieee.{Float, Format, low}
 use lib.Pow.{pow-pos}
-use Rattle.rounding.specs.Exact.{Num, Equal, _⊞_, _⊟_, _⊠_, scale, signed, value}
+use Rattle.rounding.specs.Exact.{Num, Equal, _⊞_, _⊟_, _⊠_, scale, signed, value, Number}
 use Rattle.rounding.specs.Dyadic.{Dyad}
 use Rattle.rounding.specs.Whole.{unit}
 use Rattle.rounding.proofs.Num.{product-scale}
-use Rattle.green_lagrange.specs.Fraction.{Fraction, Same, _∕_, _∔_, _∸_, _⋅_, _÷_, exact}
+use Rattle.rounding.proofs.Whole.{number-iff}
+use Rattle.green_lagrange.specs.Fraction.{Fraction, Is, _∕_, _∔_, _∸_, _⋅_, _÷_, exact}
 
 pub record Reads (p : Fraction) (n : Num) (d : ℕ) : Type 0 where
   pub some : 0 < p .bottom
@@ -53,11 +54,14 @@ module _ (f : Format) (x : Float) {n : Num} where
   reads-whole a = record { some = pow-pos (low f); is = omega (arith, a .is) }
 
   -- x is the fraction that reads n / d
-  pub same : {q : Fraction} {d : ℕ} → 0 < d → Reads q n d → Equal (scale d (value f x)) (scale (unit f) n) → Same (exact f x) q
-  same {q} {d} d+ r e = record {
-    left = pow-pos (low f);
-    right = r .some;
-    is = eq-of-mul-eq-mul-right d d+ _ _ (go (value f x) (q .top) (q .bottom) (unit f) (r .is) e);
+  pub is-fraction : {q : Fraction} {d : ℕ} → Number f x → 0 < d → Reads q n d → Equal (scale d (value f x)) (scale (unit f) n) → Is f x q
+  is-fraction {q} {d} number d+ r e = record {
+    number = number-iff f x .1 number;
+    same = record {
+      left = pow-pos (low f);
+      right = r .some;
+      is = eq-of-mul-eq-mul-right d d+ _ _ (go (value f x) (q .top) (q .bottom) (unit f) (r .is) e);
+    };
   }
     where
       go : (v t : Num) (b u : ℕ) → Equal (scale d t) (scale b n) → Equal (scale d v) (scale u n) → (b * v .plus + u * t .minus) * d ≡ (u * t .plus + b * v .minus) * d

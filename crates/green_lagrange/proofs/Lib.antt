@@ -2,6 +2,8 @@ pub mod Fraction
 pub mod Vector
 pub mod Powers
 pub mod Rest
+pub mod Corners
+pub mod Factors
 pub mod Values
 pub mod Gradient
 pub mod Theorem

@@ -23,11 +23,11 @@ use Rattle.green_lagrange.proofs.Powers.{tiny, power, nothing, root-pow
 use Rattle.green_lagrange.proofs.Vector.{Nums, one, eX, eY, eZ, dot, times, Dyads, cross-exact, dot-exact, scale-exact}
 
 -- the plane point (m, n), exactly
-abbrev At : Format → (m n : ℕ) → V2 → Type 0
-At f m n p = Dyad f (p .x) (low f) (signed false m) m × Dyad f (p .y) (low f) (signed false n) n
+abbrev Placed : Format → (m n : ℕ) → V2 → Type 0
+Placed f m n p = Dyad f (p .x) (low f) (signed false m) m × Dyad f (p .y) (low f) (signed false n) n
 
-at : (f : Format) (m n : ℕ) (p : V2) → isAt f m n p ≡ true → At f m n p
-at f m n p e = let t = both (isNatural f m (p .x)) _ e in (natural f m (p .x) (t .0), natural f n (p .y) (t .1))
+placed : (f : Format) (m n : ℕ) (p : V2) → isAt f m n p ≡ true → Placed f m n p
+placed f m n p e = let t = both (isNatural f m (p .x)) _ e in (natural f m (p .x) (t .0), natural f n (p .y) (t .1))
 
 -- i and j are so small that the squares of a b and of 1 / (a b) are far from both ends of the format's range
 pub record Small (f : Format) (i j : ℕ) : Type 0 where
@@ -48,11 +48,11 @@ module _ (f : Format) (i j : ℕ) (s : Small f i j) where
     abbrev gd0Y : V3
     gd0Y = gd0Of f ini .y
 
-    pub points : At f 0 0 (ini .p0) × At f (2 ^ i) 0 (ini .p1) × At f 0 (2 ^ j) (ini .p2)
+    pub points : Placed f 0 0 (ini .p0) × Placed f (2 ^ i) 0 (ini .p1) × Placed f 0 (2 ^ j) (ini .p2)
     points =
         let t = both (isAt f 0 0 (ini .p0) && isAt f (2 ^ i) 0 (ini .p1)) _ rest in
         let u = both (isAt f 0 0 (ini .p0)) _ (t .0) in
-        (at f 0 0 _ (u .0), at f (2 ^ i) 0 _ (u .1), at f 0 (2 ^ j) _ (t .1))
+        (placed f 0 0 _ (u .0), placed f (2 ^ i) 0 _ (u .1), placed f 0 (2 ^ j) _ (t .1))
 
     pub edge-x : Dyads f gd0X (l + i) eX 1
     unfolding gd0Of
@@ -97,13 +97,13 @@ module _ (f : Format) (i j : ℕ) (s : Small f i j) where
         (scale-exact f l (omega (arith, s .deep)) (room l (omega arith)) normal
         (inverse f (l - (i + j)) (omega (arith, s .deep)) (room (l - (i + j)) (omega arith)) (normal .z)) (omega (arith, tiny f)))
 
-    -- a contravariant vector of length 2 ^ p along the axis of g0, whose length is 2 ^ a: their dot is a b
-    across : (g0 g1 g2 : V3) {n : Nums} {p a : ℕ} (k : ℕ) → dot n n ≡ one → p + a ≡ l + i + j + l → p + (l - (i + j)) ≡ k + l → k ≤ l
-        → Dyads f (crossOf f g1 g2) p n 4 → Dyads f g0 a n 1
+    -- across g1 and g2 lies a vector of 2 ^ p units along the axis of g0, which is 2 ^ q units long: their dot is a b
+    across : (g0 g1 g2 : V3) {n : Nums} {p q : ℕ} (k : ℕ) → dot n n ≡ one → p + q ≡ l + i + j + l → p + (l - (i + j)) ≡ k + l → k ≤ l
+        → Dyads f (crossOf f g1 g2) p n 4 → Dyads f g0 q n 1
         → (isZero (contravariantOf f g0 g1 g2 .by) ≡ false) × Dyads f (contravariantOf f g0 g1 g2 .v) k (times n one) 4
     unfolding contravariantOf overOf
-    across g0 g1 g2 k unit e h k≤ gu g =
-        let by = rw unit at (dot-exact f (l + i + j) e (room (l + i + j) (omega arith)) gu g (omega (arith, tiny f))) in
+    across g0 g1 g2 k long e h k≤ gu g =
+        let by = rw long at (dot-exact f (l + i + j) e (room (l + i + j) (omega arith)) gu g (omega (arith, tiny f))) in
         (not-zero f by, scale-exact f k h (room k (omega arith)) gu (inverse f (l - (i + j)) (omega (arith, s .deep)) (room (l - (i + j)) (omega arith)) by) (omega (arith, tiny f)))
 
     pub gu0-x : (isZero (restOf f ini .«gu0_x» .by) ≡ false) × Dyads f (restOf f ini .«gu0_x» .v) (l - i) eX 4

@@ -1,4 +1,4 @@
--- The family has the sheet of the finding in it, its answer meets `IsBook`, and the ported strain's answer does not: 6 in place of 1.5, by computing.
+-- The family has the sheet of the finding in it, its answer meets `IsBookStrain`, and the ported strain's answer does not: 6 in place of 1.5, by computing.
 use mathlib.Core.Path.{_≡_, refl}
 use mathlib.Core.Bool.{true, false≢true}
 use lib.Dec.{lit≤}
@@ -13,10 +13,10 @@ use Rattle.del_geo_core.specs.Tri2 as tri2
 use Rattle.del_geo_core.specs.Tri3 as tri3
 use Rattle.del_geo_core.specs.Vec3 as vec3
 use Rattle.stvk_tri3.specs.Edges as edges
+use Rattle.stvk_tri3.specs.Example.{atRest, pulled}
 use Rattle.stvk_tri3.specs.GreenLagrange.{wdwGreenLagrangeOf}
 use Rattle.stvk_tri3.specs.Strain as strain
-use Rattle.green_lagrange.specs.Example.{atRest, pulled}
-use Rattle.green_lagrange.specs.GreenLagrange.{IsBook}
+use Rattle.green_lagrange.specs.Book.{IsBookStrain}
 use Rattle.green_lagrange.specs.Sheet.{isRest, isWhole}
 use Rattle.green_lagrange.proofs.Theorem.{green-lagrange}
 
@@ -28,11 +28,11 @@ whole : isWhole binary64 1024 (tri3.cornersOf pulled) ≡ true
 unfolding isWholeUpTo fits mag sign
 whole = refl
 
-pub met : IsBook binary64 2 1 (tri3.cornersOf pulled) (wdwGreenLagrangeOf binary64 (tri2.cornersOf atRest) (tri3.cornersOf pulled))
+pub met : IsBookStrain binary64 2 1 (tri3.cornersOf pulled) (wdwGreenLagrangeOf binary64 (tri2.cornersOf atRest) (tri3.cornersOf pulled))
 met = green-lagrange 1 0 (lit≤ tt) (lit≤ tt) atRest pulled refl at-rest whole
 
-pub not-ported : IsBook binary64 2 1 (tri3.cornersOf pulled) (strain.wdwOf binary64 (tri2.cornersOf atRest) (tri3.cornersOf pulled)) → ⊥
+pub not-ported : IsBookStrain binary64 2 1 (tri3.cornersOf pulled) (strain.wdwOf binary64 (tri2.cornersOf atRest) (tri3.cornersOf pulled)) → ⊥
 unfolding value mag sign sub mul div ofBits every rootOf firstOf kernelNumber vec3.isFiniteOf vec3.normOf vec3.overOf vec3.unitOf tri2.isFiniteOf tri3.isFiniteOf edges.edgesOf edges.glstrainOf
     strain.badInputOf strain.zeroDivisorOf strain.badAnswerOf strain.gd0Of strain.restOf strain.gugu0XxOf strain.gugu0YyOf strain.gugu0XyOf strain.wOf strain.hogeOf strain.dwKOf
     strain.dwOf strain.valuesOf strain.strainOf strain.wdwOf
-not-ported h = false≢true (eq-eqb _ _ (h .xx .is))
+not-ported h = false≢true (eq-eqb _ _ (h .xx .same .is))

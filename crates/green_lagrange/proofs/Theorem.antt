@@ -1,4 +1,4 @@
--- The theorem of 01-scope 6.5: a sheet of the family is accepted, and its exact values read the same as half of (F^T F - I), the off-diagonal doubled.
+-- The theorem of 01-scope 6.5: no test refuses a sheet of the family, and each value, exact over 2 a^2, 2 b^2 or 2 a b, is the fraction that the columns of F give.
 use mathlib.Core.Path.{_≡_}
 use mathlib.Core.Bool.{true, false}
 use mathlib.Core.List.{List}
@@ -8,32 +8,30 @@ use native.Mathlib.Omega.{arith}
 use lib.Dec.{lit≤, lit<}
 use lib.Pow.{pow-pos, pow-mono}
 use lib.Ieee.{Float, Format, binary64}
-use lib.Ieee.Bits.{is-true}
-use lib.Ieee.Scale.{finite}
 use Rattle.float.specs.Lists.{every}
 use Rattle.float.proofs.Scan.{every-append}
 use Rattle.refusal.specs.Refusal.{accepted}
 use Rattle.rounding.specs.Exact.{Num, Equal, _⊞_, _⊟_, _⊠_, scale, signed}
-use Rattle.rounding.specs.Dyadic.{Dyad}
 use Rattle.rounding.specs.Whole.{unit}
 use Rattle.del_geo_core.specs.Tri2 as tri2
 use Rattle.del_geo_core.specs.Tri3 as tri3
 use Rattle.del_geo_core.specs.Vec3 as vec3
 use Rattle.del_geo_core.specs.declared.tri2.Tri2.{Tri2}
 use Rattle.del_geo_core.specs.declared.tri3.Tri3.{Tri3}
-use Rattle.del_geo_core.specs.declared.vec3.V3.{V3}
-use Rattle.stvk_tri3.specs.Edges.{edgesOf, glstrainOf}
+use Rattle.stvk_tri3.specs.Edges.{edgesOf}
 use Rattle.stvk_tri3.specs.GreenLagrange.{restOf, IsGreenLagrange}
-use Rattle.stvk_tri3.specs.Strain.{badInputOf, badAnswerOf, gd0Of, gugu0XxOf, gugu0YyOf, gugu0XyOf, wOf, dwOf, valuesOf}
+use Rattle.stvk_tri3.specs.Strain.{badInputOf, badAnswerOf, wOf, dwOf, valuesOf}
 use Rattle.stvk_tri3.specs.declared.Strain.{Strain}
 use Rattle.stvk_tri3.proofs.GreenLagrangeAnswer.{numbers-exactly, accepted-values}
-use Rattle.green_lagrange.specs.GreenLagrange.{Gradient, gradient, IsBook}
+use Rattle.green_lagrange.specs.Book.{Gradient, gradient, IsBookStrain}
 use Rattle.green_lagrange.specs.Sheet.{isRest, isWhole}
-use Rattle.green_lagrange.proofs.Fraction.{reads-minus, reads-product, reads-one, reads-none, reads-itself, same}
+use Rattle.green_lagrange.proofs.Corners.{edge, corners}
+use Rattle.green_lagrange.proofs.Factors.{gugu0Xx, gugu0Yy, gugu0Xy}
+use Rattle.green_lagrange.proofs.Fraction.{reads-minus, reads-product, reads-one, reads-none, reads-itself, is-fraction}
 use Rattle.green_lagrange.proofs.Gradient.{Column, dot-reads, column}
-use Rattle.green_lagrange.proofs.Vector.{one, none, eX, eY, eZ}
+use Rattle.green_lagrange.proofs.Vector.{one, none, eX, eY, eZ, good}
 use Rattle.green_lagrange.proofs.Rest.{points, divisors}
-use Rattle.green_lagrange.proofs.Values.{edge, Margins, Component, corners, xx, yy, xy}
+use Rattle.green_lagrange.proofs.Values.{glstrain, Margins, Component, xx, yy, xy}
 
 -- what the factors along one axis leave of a dot: the strains along the edges one by one, as the fractions have them
 first : (u d : ℕ) (v p q r : Num) → Equal (scale d v) (scale u (p ⊠ one ⊞ q ⊠ none ⊞ r ⊠ none)) → Equal (scale d v) (scale u (one ⊠ p))
@@ -44,9 +42,6 @@ second u d v p q r e = omega (arith, e)
 
 third : (u d : ℕ) (v p q r : Num) → Equal (scale d v) (scale u (p ⊠ none ⊞ q ⊠ none ⊞ scale 2 r ⊠ one)) → Equal (scale (1 * d) v) (scale u (signed false 2 ⊠ (one ⊠ (r ⊟ none))))
 third u d v p q r e = omega (arith, e)
-
-good : {f : Format} {x : Float} {j : ℕ} {n : Num} {B : ℕ} → Dyad f x j n B → finite x ≡ true
-good a = is-true _ (a .number .fine)
 
 module _ (f : Format) {i j B S : ℕ} (m : Margins f i j B S) (pIni pDef : List (List Float)) {r : Strain} (is : IsGreenLagrange f pIni pDef r)
     (rest : isRest f (2 ^ i) (2 ^ j) (tri2.cornersOf pIni) ≡ true) (deformed : isWhole f B (tri3.cornersOf pDef) ≡ true) where
@@ -72,83 +67,68 @@ module _ (f : Format) {i j B S : ℕ} (m : Margins f i j B S) (pIni pDef : List 
   F = gradient f a b def
 
   column-x : Column (F .xX) (F .yX) (F .zX) (edge f (def .p0) (def .p1)) a
-  column-x = let c = corners f m ini rest def deformed in column f a a+ (c .1) (c .0)
+  column-x = let c = corners f B def deformed in column f a a+ (c .1) (c .0)
 
   column-y : Column (F .xY) (F .yY) (F .zY) (edge f (def .p0) (def .p2)) b
-  column-y = let c = corners f m ini rest def deformed in column f b b+ (c .2) (c .0)
+  column-y = let c = corners f B def deformed in column f b b+ (c .2) (c .0)
 
-  abbrev gu0X : V3
-  gu0X = restOf f ini .«gu0_x» .v
-
-  abbrev gu0Y : V3
-  gu0Y = restOf f ini .«gu0_y» .v
-
-  abbrev gugu0Xx : V3
-  gugu0Xx = gugu0XxOf f gu0X gu0Y
-
-  abbrev gugu0Yy : V3
-  gugu0Yy = gugu0YyOf f gu0X gu0Y
-
-  abbrev gugu0Xy : V3
-  gugu0Xy = gugu0XyOf f gu0X gu0Y
-
-  abbrev glstrain : V3
-  glstrain = glstrainOf f (gd0Of f ini) (edgesOf f def)
-
-  x : Component f m ini rest def deformed gugu0Xx eX (a * a)
+  x : Component f m ini rest def deformed (gugu0Xx f ini) eX (a * a)
   x = xx f m ini rest def deformed
 
-  y : Component f m ini rest def deformed gugu0Yy eY (b * b)
+  y : Component f m ini rest def deformed (gugu0Yy f ini) eY (b * b)
   y = yy f m ini rest def deformed
 
-  z : Component f m ini rest def deformed gugu0Xy eZ (a * b)
+  z : Component f m ini rest def deformed (gugu0Xy f ini) eZ (a * b)
   z = xy f m ini rest def deformed
 
   inputs-good : badInputOf ini def ≡ false
   unfolding badInputOf tri2.isFiniteOf tri3.isFiniteOf vec3.isFiniteOf
   inputs-good =
       let p = points f i j (m .small) ini rest in
-      let c = corners f m ini rest def deformed in
+      let c = corners f B def deformed in
       rw (
-        good (p .0 .0),
-        good (p .0 .1),
-        good (p .1 .0),
-        good (p .1 .1),
-        good (p .2 .0),
-        good (p .2 .1),
-        good (c .0 .x),
-        good (c .0 .y),
-        good (c .0 .z),
-        good (c .1 .x),
-        good (c .1 .y),
-        good (c .1 .z),
-        good (c .2 .x),
-        good (c .2 .y),
-        good (c .2 .z),
+        good (p .0 .0 .number),
+        good (p .0 .1 .number),
+        good (p .1 .0 .number),
+        good (p .1 .1 .number),
+        good (p .2 .0 .number),
+        good (p .2 .1 .number),
+        good (c .0 .x .number),
+        good (c .0 .y .number),
+        good (c .0 .z .number),
+        good (c .1 .x .number),
+        good (c .1 .y .number),
+        good (c .1 .z .number),
+        good (c .2 .x .number),
+        good (c .2 .y .number),
+        good (c .2 .z .number),
       )
 
-  answer-good : badAnswerOf (wOf f glstrain gugu0Xx gugu0Yy gugu0Xy) (dwOf f (edgesOf f def) gugu0Xx gugu0Yy gugu0Xy) ≡ false
+  abbrev w : List Float
+  w = wOf f (glstrain f ini def) (gugu0Xx f ini) (gugu0Yy f ini) (gugu0Xy f ini)
+
+  answer-good : badAnswerOf w (dwOf f (edgesOf f def) (gugu0Xx f ini) (gugu0Yy f ini) (gugu0Xy f ini)) ≡ false
   unfolding badAnswerOf wOf dwOf every
-  answer-good = rw (x .fine, y .fine, z .fine, every-append, every-append, x .derivatives, y .derivatives, z .derivatives)
+  answer-good = rw (good (x .number), good (y .number), good (z .number), every-append, every-append, x .derivatives, y .derivatives, z .derivatives)
 
   accepts : r .number ≡ accepted
   unfolding restOf valuesOf
   accepts = numbers-exactly f pIni pDef is .accepted-exactly .1 (inputs-good, divisors f i j (m .small) ini rest, answer-good)
 
-  w-is : r .w ≡ wOf f glstrain gugu0Xx gugu0Yy gugu0Xy
+  w-is : r .w ≡ w
   unfolding restOf valuesOf
   w-is = accepted-values f pIni pDef is accepts .0
 
   -- ---- THE law, over the format
-  pub book : IsBook f a b def r
+  pub book : IsBookStrain f a b def r
   unfolding wOf
   book = record {
     accepts = accepts;
-    xx = rw w-is (same f _ (mul-pos (lit≤ tt) (mul-pos a+ a+))
+    xx = rw w-is (is-fraction f _ (x .number) (mul-pos (lit≤ tt) (mul-pos a+ a+))
         (reads-product (reads-itself 1 2 (lit≤ tt)) (reads-minus (dot-reads column-x column-x) (reads-one (a * a)))) (first (unit f) _ _ _ _ _ (x .is)));
-    yy = rw w-is (same f _ (mul-pos (lit≤ tt) (mul-pos b+ b+))
+    yy = rw w-is (is-fraction f _ (y .number) (mul-pos (lit≤ tt) (mul-pos b+ b+))
         (reads-product (reads-itself 1 2 (lit≤ tt)) (reads-minus (dot-reads column-y column-y) (reads-one (b * b)))) (second (unit f) _ _ _ _ _ (y .is)));
-    xy = rw w-is (same f _ (mul-pos (lit≤ tt) (mul-pos (lit≤ tt) (mul-pos a+ b+)))
+    xy = rw w-is (is-fraction f _ (z .number) (mul-pos (lit≤ tt) (mul-pos (lit≤ tt) (mul-pos a+ b+)))
         (reads-product (reads-itself 2 1 (lit≤ tt)) (reads-product (reads-itself 1 2 (lit≤ tt)) (reads-minus (dot-reads column-x column-y) (reads-none (a * b)))))
         (third (unit f) _ _ _ _ _ (z .is)));
   }
@@ -165,5 +145,5 @@ margins h k = record {
 
 pub green-lagrange : (i j : ℕ) → i ≤ 10 → j ≤ 10 → (pIni pDef : List (List Float)) {r : Strain} → IsGreenLagrange binary64 pIni pDef r
     → isRest binary64 (2 ^ i) (2 ^ j) (tri2.cornersOf pIni) ≡ true → isWhole binary64 1024 (tri3.cornersOf pDef) ≡ true
-    → IsBook binary64 (2 ^ i) (2 ^ j) (tri3.cornersOf pDef) r
+    → IsBookStrain binary64 (2 ^ i) (2 ^ j) (tri3.cornersOf pDef) r
 green-lagrange i j h k pIni pDef is rest deformed = book binary64 (margins h k) pIni pDef is rest deformed

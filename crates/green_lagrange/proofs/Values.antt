@@ -1,48 +1,37 @@
--- The values for such a rest triangle and whole deformed corners: each factor is a power of two along one axis, so that every product and every sum is exact.
+-- The values for a rest triangle on (0, 0), (2 ^ i, 0), (0, 2 ^ j) and whole deformed corners: each factor is a power of two along one axis, so every product and every sum is exact.
 use mathlib.Core.Path.{_≡_, refl, sym, ap, _∙_}
-use mathlib.Core.Bool.{true, false, _&&_}
+use mathlib.Core.Bool.{true, false}
 use Prim.Native.Nat.{ℕ, _+_, _-_, _*_, _^_, _≤_, _<_}
 use native.Mathlib.Nat.{mul-le-mul-left, lt-of-le-of-lt}
 use native.Mathlib.Omega.{arith}
 use lib.Dec.{lit≤}
 use lib.Pow.{pow-add}
 use lib.Ieee.{Float, Format, prec, low}
-use lib.Ieee.Bits.{is-true}
 use lib.Ieee.Scale.{finite}
 use Rattle.float.specs.Lists.{every, allFinite}
 use Rattle.float.specs.Ops.{Ops, ops}
-use Rattle.float.proofs.Scan.{both}
-use Rattle.rounding.specs.Exact.{Num, Equal, _⊟_, _⊠_, scale, signed, value}
+use Rattle.rounding.specs.Exact.{Num, Equal, _⊟_, scale, signed, value, Number}
 use Rattle.rounding.specs.Dyadic.{Dyad, Room}
-use Rattle.rounding.specs.Whole.{unit, isWholeUpTo}
+use Rattle.rounding.specs.Whole.{unit}
 use Rattle.rounding.proofs.Nearest.{top-digit}
 use Rattle.rounding.proofs.Dyadic.{whole-room, dyad-as, dyad-neg, dyad-add, dyad-sub, dyad-mul}
-use Rattle.rounding.proofs.Whole.{whole, coordinate, half-dyad, two-dyad}
+use Rattle.rounding.proofs.Whole.{half-dyad}
 use Rattle.del_geo_core.specs.Vec3.{dotOf}
 use Rattle.del_geo_core.specs.declared.tri2.Tri2.{Tri2}
 use Rattle.del_geo_core.specs.declared.tri3.Tri3.{Tri3}
 use Rattle.del_geo_core.specs.declared.vec3.V3.{V3}
 use Rattle.stvk_tri3.specs.Edges.{edgesOf, glstrainOf}
-use Rattle.stvk_tri3.specs.GreenLagrange.{restOf}
-use Rattle.stvk_tri3.specs.Strain.{flat, gd0Of, gugu0XxOf, gugu0YyOf, gugu0XyOf, hogeOf, dwKOf}
-use Rattle.green_lagrange.specs.Sheet.{isRest, isWholePoint, isWhole}
+use Rattle.stvk_tri3.specs.Strain.{flat, gd0Of, hogeOf, dwKOf}
+use Rattle.green_lagrange.specs.Sheet.{isRest, isWhole}
+use Rattle.green_lagrange.proofs.Corners.{edge, corners}
+use Rattle.green_lagrange.proofs.Factors.{gugu0Xx, gugu0Yy, gugu0Xy, xx-factors, yy-factors, xy-factors}
 use Rattle.green_lagrange.proofs.Powers.{tiny, nothing}
-use Rattle.green_lagrange.proofs.Rest.{Small, room, edge-x, edge-y, gu0-x, gu0-y}
-use Rattle.green_lagrange.proofs.Vector.{Nums, one, none, eX, eY, eZ, dot, minus, Dyads, sub-exact, dot-exact}
+use Rattle.green_lagrange.proofs.Rest.{Small, room, edge-x, edge-y}
+use Rattle.green_lagrange.proofs.Vector.{Nums, one, none, eX, eY, eZ, dot, good, Dyads, sub-exact, dot-exact}
 
--- a deformed corner, counted in ones
-abbrev ones : Format → V3 → Nums
-ones f p = record { x = whole f (p .x); y = whole f (p .y); z = whole f (p .z) }
-
--- from one corner to another
-abbrev pub edge : Format → (p q : V3) → Nums
-edge f p q = minus (ones f q) (ones f p)
-
-corner : (f : Format) (B : ℕ) (p : V3) → isWholePoint f B p ≡ true → Dyads f p (low f) (ones f p) B
-corner f B p e =
-    let t = both (isWholeUpTo f B (p .x) && isWholeUpTo f B (p .y)) _ e in
-    let u = both (isWholeUpTo f B (p .x)) _ (t .0) in
-    record { x = coordinate f B _ (u .0); y = coordinate f B _ (u .1); z = coordinate f B _ (t .1) }
+-- the strains along the edges
+abbrev pub glstrain : Format → Tri2 → Tri3 → V3
+glstrain f ini def = glstrainOf f (gd0Of f ini) (edgesOf f def)
 
 -- the digits suffice, where B bounds the corners' coordinates and S the squares of a and b: a strain along the edges has at most six products of two edges' coordinates in it and one square, and a
 -- value is three of them times factors of size 32 at most; a derivative is two products of 64 at most by an edge's coordinate
@@ -68,40 +57,31 @@ module _ (f : Format) {i j B S : ℕ} (m : Margins f i j B S) (ini : Tri2) (rest
   abbrev G : ℕ
   G = 6 * (W * W) + S
 
-  G< : 96 * G < 2 ^ prec f
-  G< = m .strains
-
   abbrev d1 : Nums
   d1 = edge f (def .p0) (def .p1)
 
   abbrev d2 : Nums
   d2 = edge f (def .p0) (def .p2)
 
-  pub corners : Dyads f (def .p0) l (ones f (def .p0)) B × Dyads f (def .p1) l (ones f (def .p1)) B × Dyads f (def .p2) l (ones f (def .p2)) B
-  corners =
-      let t = both (isWholePoint f B (def .p0) && isWholePoint f B (def .p1)) _ deformed in
-      let u = both (isWholePoint f B (def .p0)) _ (t .0) in
-      (corner f B _ (u .0), corner f B _ (u .1), corner f B _ (t .1))
-
   W< : W < 2 ^ prec f
   W< = lt-of-le-of-lt (omega arith) (m .derivatives)
 
   deformed-x : Dyads f (edgesOf f def .x) l d1 W
   unfolding edgesOf
-  deformed-x = sub-exact f (whole-room f) (corners .1) (corners .0) W<
+  deformed-x = let c = corners f B def deformed in sub-exact f (whole-room f) (c .1) (c .0) W<
 
   deformed-y : Dyads f (edgesOf f def .y) l d2 W
   unfolding edgesOf
-  deformed-y = sub-exact f (whole-room f) (corners .2) (corners .0) W<
+  deformed-y = let c = corners f B def deformed in sub-exact f (whole-room f) (c .2) (c .0) W<
 
   -- ---- the strains along the edges, in halves
   dots : {u v : V3} {n k : Nums} → Dyads f u l n W → Dyads f v l k W → Dyad f (dotOf f u v) l (dot n k) (W * W + W * W + W * W)
-  dots a b = dot-exact f l refl (whole-room f) a b (lt-of-le-of-lt (omega arith) G<)
+  dots a b = dot-exact f l refl (whole-room f) a b (lt-of-le-of-lt (omega arith) (m .strains))
 
   -- the square of a rest edge
   length² : {u : V3} {n : Nums} (k : ℕ) → dot n n ≡ one → k ≤ i + j → 2 ^ k * 2 ^ k ≤ S → Dyads f u (l + k) n 1 → Dyad f (dotOf f u u) l (signed false (2 ^ k * 2 ^ k)) S
-  length² k unit h s a =
-      dyad-as (rw unit at (dot-exact f (l + k + k) (omega arith) (room f i j (m .small) (l + k + k) (omega arith)) a a (omega (arith, tiny f))))
+  length² k long h s a =
+      dyad-as (rw long at (dot-exact f (l + k + k) (omega arith) (room f i j (m .small) (l + k + k) (omega arith)) a a (omega (arith, tiny f))))
       (rw (pow-add 2 (l + k) k, pow-add 2 l k) (omega arith)) (omega (arith, s))
 
   halved : {x : Float} {n : Num} {C : ℕ} → C < 2 ^ prec f → Dyad f x l n C → Dyad f (half ⊗ x) (l - 1) n C
@@ -110,17 +90,16 @@ module _ (f : Format) {i j B S : ℕ} (m : Margins f i j B S) (ini : Tri2) (rest
   abbrev gl : Nums
   gl = record { x = dot d1 d1 ⊟ signed false (2 ^ i * 2 ^ i); y = dot d2 d2 ⊟ signed false (2 ^ j * 2 ^ j); z = scale 2 (dot d1 d2) }
 
-  abbrev glstrain : V3
-  glstrain = glstrainOf f (gd0Of f ini) (edgesOf f def)
-
-  strains : Dyads f glstrain (l - 1) gl G
+  strains : Dyads f (glstrain f ini def) (l - 1) gl G
   unfolding glstrainOf
   strains =
-      let few : W * W + W * W + W * W + S < 2 ^ prec f = lt-of-le-of-lt (omega arith) G< in
-      let x = halved few (dyad-sub f (whole-room f) (dots deformed-x deformed-x) (length² i refl (omega arith) (m .a²) (edge-x f i j (m .small) ini rest)) few) in
-      let y = halved few (dyad-sub f (whole-room f) (dots deformed-y deformed-y) (length² j refl (omega arith) (m .b²) (edge-y f i j (m .small) ini rest)) few) in
-      let across = dot-exact f (l + i + j) (omega arith) (room f i j (m .small) (l + i + j) (omega arith)) (edge-x f i j (m .small) ini rest) (edge-y f i j (m .small) ini rest) (omega (arith, tiny f)) in
-      let z = dyad-sub f (whole-room f) (dots deformed-x deformed-y) (nothing f across l 0) (lt-of-le-of-lt (omega arith) G<) in
+      let ex = edge-x f i j (m .small) ini rest in
+      let ey = edge-y f i j (m .small) ini rest in
+      let few : W * W + W * W + W * W + S < 2 ^ prec f = lt-of-le-of-lt (omega arith) (m .strains) in
+      let x = halved few (dyad-sub f (whole-room f) (dots deformed-x deformed-x) (length² i refl (omega arith) (m .a²) ex) few) in
+      let y = halved few (dyad-sub f (whole-room f) (dots deformed-y deformed-y) (length² j refl (omega arith) (m .b²) ey) few) in
+      let across = dot-exact f (l + i + j) (omega arith) (room f i j (m .small) (l + i + j) (omega arith)) ex ey (omega (arith, tiny f)) in
+      let z = dyad-sub f (whole-room f) (dots deformed-x deformed-y) (nothing f across l 0) (lt-of-le-of-lt (omega arith) (m .strains)) in
       record {
         x = dyad-as x refl (omega (arith, x .small));
         y = dyad-as y refl (omega (arith, y .small));
@@ -130,63 +109,21 @@ module _ (f : Format) {i j B S : ℕ} (m : Margins f i j B S) (ini : Tri2) (rest
       twice : (p h : ℕ) (n : Num) → p ≡ h * 2 → Equal (scale p (n ⊟ none)) (scale h (scale 2 n))
       twice p h n e = rw e (omega arith)
 
-  -- ---- the factors: 1 / a² along x, 1 / b² along y, 1 / (a b) along the third place; all else is nothing
-  abbrev gu0X : V3
-  gu0X = restOf f ini .«gu0_x» .v
-
-  abbrev gu0Y : V3
-  gu0Y = restOf f ini .«gu0_y» .v
-
-  u : Dyads f gu0X (l - i) eX 4
-  u = gu0-x f i j (m .small) ini rest .1
-
-  v : Dyads f gu0Y (l - j) eY 4
-  v = gu0-y f i j (m .small) ini rest .1
-
-  times : {x y : Float} {p q k : ℕ} {n o : Num} {C D : ℕ} → p + q ≡ k + l → k ≤ l → C * D < 4096 → Dyad f x p n C → Dyad f y q o D → Dyad f (x ⊗ y) k (n ⊠ o) (C * D)
-  times {k = k} e h few a b = dyad-mul f k e (room f i j (m .small) k (omega arith)) a b (omega (arith, few, tiny f))
-
-  xx-factors : Dyads f (gugu0XxOf f gu0X gu0Y) (l - (i + i)) eX 16
-  unfolding gugu0XxOf
-  xx-factors =
-      let e : l - i + (l - i) ≡ l - (i + i) + l = omega (arith, m .small .deep) in
-      let vx = nothing f (v .x) (l - i) 4 in
-      record { x = times e (omega arith) (lit≤ tt) (u .x) (u .x); y = times e (omega arith) (lit≤ tt) vx vx; z = times e (omega arith) (lit≤ tt) (u .x) vx }
-
-  yy-factors : Dyads f (gugu0YyOf f gu0X gu0Y) (l - (j + j)) eY 16
-  unfolding gugu0YyOf
-  yy-factors =
-      let e : l - j + (l - j) ≡ l - (j + j) + l = omega (arith, m .small .deep) in
-      let uy = nothing f (u .y) (l - j) 4 in
-      record { x = times e (omega arith) (lit≤ tt) uy uy; y = times e (omega arith) (lit≤ tt) (v .y) (v .y); z = times e (omega arith) (lit≤ tt) uy (v .y) }
-
-  xy-factors : Dyads f (gugu0XyOf f gu0X gu0Y) (l - (i + j)) eZ 32
-  unfolding gugu0XyOf
-  xy-factors =
-      let e : l - i + (l - j) ≡ l - (i + j) + l = omega (arith, m .small .deep) in
-      let d : l + (l - i) ≡ l - i + l = omega arith in
-      let r = room f i j (m .small) (l - (i + j)) (omega arith) in
-      record {
-        x = times e (omega arith) (lit≤ tt) (times d (omega arith) (lit≤ tt) (two-dyad f) (u .x)) (nothing f (u .y) (l - j) 4);
-        y = times e (omega arith) (lit≤ tt) (times d (omega arith) (lit≤ tt) (two-dyad f) (nothing f (v .x) (l - i) 4)) (v .y);
-        z = dyad-add f r (times e (omega arith) (lit≤ tt) (u .x) (v .y)) (times e (omega arith) (lit≤ tt) (u .y) (v .x)) (omega (arith, tiny f));
-      }
-
   -- ---- one value and its derivatives, for factors g that are n * 2 ^ k units: the value is exact, over 2 d
   pub record Component (g : V3) (n : Nums) (d : ℕ) : Type 0 where
-    pub fine : finite (dotOf f glstrain g) ≡ true
-    pub is : Equal (scale (2 * d) (value f (dotOf f glstrain g))) (scale (unit f) (dot gl n))
+    pub number : Number f (dotOf f (glstrain f ini def) g)
+    pub is : Equal (scale (2 * d) (value f (dotOf f (glstrain f ini def) g))) (scale (unit f) (dot gl n))
     pub derivatives : allFinite (flat (dwKOf f (edgesOf f def) g)) ≡ true
 
   module _ {g : V3} {k : ℕ} {n : Nums} {C : ℕ} (k≤ : k ≤ l) (k+ : 0 < k) (C≤ : C ≤ 32) (a : Dyads f g k n C) where
     r : Room f k
     r = room f i j (m .small) k (omega arith)
 
-    value-exact : Dyad f (dotOf f glstrain g) (k - 1) (dot gl n) (G * C + G * C + G * C)
-    value-exact = dot-exact f (k - 1) (omega arith) (room f i j (m .small) (k - 1) (omega arith)) strains a (lt-of-le-of-lt (omega (arith, mul-le-mul-left G C≤)) G<)
+    value-exact : Dyad f (dotOf f (glstrain f ini def) g) (k - 1) (dot gl n) (G * C + G * C + G * C)
+    value-exact = dot-exact f (k - 1) (omega arith) (room f i j (m .small) (k - 1) (omega arith)) strains a (lt-of-le-of-lt (omega (arith, mul-le-mul-left G C≤)) (m .strains))
 
-    value-is : (d : ℕ) → 2 ^ k * d ≡ unit f → Equal (scale (2 * d) (value f (dotOf f glstrain g))) (scale (unit f) (dot gl n))
-    value-is d e = go (2 ^ (k - 1)) (2 ^ k) (unit f) (value f (dotOf f glstrain g)) (dot gl n) (top-digit k k+) e (value-exact .is)
+    value-is : (d : ℕ) → 2 ^ k * d ≡ unit f → Equal (scale (2 * d) (value f (dotOf f (glstrain f ini def) g))) (scale (unit f) (dot gl n))
+    value-is d e = go (2 ^ (k - 1)) (2 ^ k) (unit f) (value f (dotOf f (glstrain f ini def) g)) (dot gl n) (top-digit k k+) e (value-exact .is)
       where
         go : (h p t : ℕ) (w o : Num) → p ≡ h * 2 → p * d ≡ t → Equal w (scale h o) → Equal (scale (2 * d) w) (scale t o)
         go h p t w o e q z = rw (← q, e) (omega (arith, ap (λ (y : ℕ). 2 * d * y) z))
@@ -198,11 +135,11 @@ module _ (f : Format) {i j B S : ℕ} (m : Margins f i j B S) (ini : Tri2) (rest
     most h b = dyad-as b refl (omega (arith, b .small, h, few))
 
     -- a coordinate of a derivative
-    part : {x y s t : Float} {o p q r : Num} → Dyad f x k o 64 → Dyad f y k p 64 → Dyad f s l q W → Dyad f t l r W → finite (x ⊗ s ⊕ y ⊗ t) ≡ true
+    part : {x y s t : Float} {o p q v : Num} → Dyad f x k o 64 → Dyad f y k p 64 → Dyad f s l q W → Dyad f t l v W → finite (x ⊗ s ⊕ y ⊗ t) ≡ true
     part b c d e =
         let w : 64 * W + 64 * W < 2 ^ prec f = lt-of-le-of-lt (omega arith) (m .derivatives) in
         let h : 64 * W < 2 ^ prec f = lt-of-le-of-lt (omega arith) w in
-        is-true _ (dyad-add f r (dyad-mul f k refl r b d h) (dyad-mul f k refl r c e h) w .number .fine)
+        good (dyad-add f r (dyad-mul f k refl r b d h) (dyad-mul f k refl r c e h) w .number)
 
     derivatives-finite : allFinite (flat (dwKOf f (edgesOf f def) g)) ≡ true
     unfolding dwKOf hogeOf every
@@ -226,20 +163,20 @@ module _ (f : Format) {i j B S : ℕ} (m : Margins f i j B S) (ini : Tri2) (rest
         )
 
     component : (d : ℕ) → 2 ^ k * d ≡ unit f → Component g n d
-    component d e = record { fine = is-true _ (value-exact .number .fine); is = value-is d e; derivatives = derivatives-finite }
+    component d e = record { number = value-exact .number; is = value-is d e; derivatives = derivatives-finite }
 
-  -- a b as one power
+  -- 2 ^ (l - (p + q)) units are 1 / (2 ^ p * 2 ^ q)
   product : (p q : ℕ) → p + q ≤ 2 * (i + j) → 2 ^ (l - (p + q)) * (2 ^ p * 2 ^ q) ≡ unit f
   product p q h =
       let e : l - (p + q) + (p + q) ≡ l = omega (arith, m .small .deep) in
       rw (← pow-add) (sym (pow-add 2 (l - (p + q)) (p + q)) ∙ ap (λ (z : ℕ). 2 ^ z) e)
 
   -- ---- THE laws of the three values
-  pub xx : Component (gugu0XxOf f gu0X gu0Y) eX (2 ^ i * 2 ^ i)
-  xx = component (omega arith) (omega (arith, m .small .deep)) (lit≤ tt) xx-factors (2 ^ i * 2 ^ i) (product i i (omega arith))
+  pub xx : Component (gugu0Xx f ini) eX (2 ^ i * 2 ^ i)
+  xx = component (omega arith) (omega (arith, m .small .deep)) (lit≤ tt) (xx-factors f i j (m .small) ini rest) (2 ^ i * 2 ^ i) (product i i (omega arith))
 
-  pub yy : Component (gugu0YyOf f gu0X gu0Y) eY (2 ^ j * 2 ^ j)
-  yy = component (omega arith) (omega (arith, m .small .deep)) (lit≤ tt) yy-factors (2 ^ j * 2 ^ j) (product j j (omega arith))
+  pub yy : Component (gugu0Yy f ini) eY (2 ^ j * 2 ^ j)
+  yy = component (omega arith) (omega (arith, m .small .deep)) (lit≤ tt) (yy-factors f i j (m .small) ini rest) (2 ^ j * 2 ^ j) (product j j (omega arith))
 
-  pub xy : Component (gugu0XyOf f gu0X gu0Y) eZ (2 ^ i * 2 ^ j)
-  xy = component (omega arith) (omega (arith, m .small .deep)) (lit≤ tt) xy-factors (2 ^ i * 2 ^ j) (product i j (omega arith))
+  pub xy : Component (gugu0Xy f ini) eZ (2 ^ i * 2 ^ j)
+  xy = component (omega arith) (omega (arith, m .small .deep)) (lit≤ tt) (xy-factors f i j (m .small) ini rest) (2 ^ i * 2 ^ j) (product i j (omega arith))

@@ -1,11 +1,13 @@
 -- Vectors of three numbers whose components are whole multiples of one power of two: the helpers' operations on them are exact.
 use mathlib.Core.Path.{_≡_}
-use mathlib.Core.Bool.{false}
+use mathlib.Core.Bool.{true, false}
 use Prim.Native.Nat.{ℕ, _+_, _*_, _^_, _<_}
 use native.Mathlib.Nat.{lt-of-le-of-lt}
 use native.Mathlib.Omega.{arith}
 use lib.Ieee.{Float, Format, prec, low}
-use Rattle.rounding.specs.Exact.{Num, _⊞_, _⊟_, _⊠_, signed}
+use lib.Ieee.Bits.{is-true}
+use lib.Ieee.Scale.{finite}
+use Rattle.rounding.specs.Exact.{Num, _⊞_, _⊟_, _⊠_, signed, Number}
 use Rattle.rounding.specs.Dyadic.{Dyad, Room}
 use Rattle.rounding.proofs.Dyadic.{dyad-add, dyad-sub, dyad-mul}
 use Rattle.del_geo_core.specs.Vec3.{dotOf, crossOf, subOf, scaleOf}
@@ -35,7 +37,7 @@ eZ = record { x = none; y = none; z = one }
 abbrev pub dot : Nums → Nums → Num
 dot n m = n .x ⊠ m .x ⊞ n .y ⊠ m .y ⊞ n .z ⊠ m .z
 
-abbrev pub cross : Nums → Nums → Nums
+abbrev cross : Nums → Nums → Nums
 cross n m = record { x = n .y ⊠ m .z ⊟ n .z ⊠ m .y; y = n .z ⊠ m .x ⊟ n .x ⊠ m .z; z = n .x ⊠ m .y ⊟ n .y ⊠ m .x }
 
 abbrev pub minus : Nums → Nums → Nums
@@ -43,6 +45,9 @@ minus n m = record { x = n .x ⊟ m .x; y = n .y ⊟ m .y; z = n .z ⊟ m .z }
 
 abbrev pub times : Nums → Num → Nums
 times n k = record { x = n .x ⊠ k; y = n .y ⊠ k; z = n .z ⊠ k }
+
+pub good : {f : Format} {x : Float} → Number f x → finite x ≡ true
+good n = is-true _ (n .fine)
 
 -- v is n * 2 ^ j units, each component of n of size B at most
 pub record Dyads (f : Format) (v : V3) (j : ℕ) (n : Nums) (B : ℕ) : Type 0 where

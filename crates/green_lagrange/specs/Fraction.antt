@@ -1,9 +1,10 @@
--- Exact fractions, multiplied out: a whole number over a natural one.
-use mathlib.Core.Bool.{false}
+-- Exact fractions, multiplied out (01-scope 6.4): a whole number over a natural one. Operations with a dot are those of fractions.
+use mathlib.Core.Path.{_≡_}
+use mathlib.Core.Bool.{true, false}
 use Prim.Native.Nat.{ℕ, _*_, _<_}
 use lib.Ieee.{Float, Format}
 use Rattle.rounding.specs.Exact.{Num, Equal, _⊞_, _⊟_, _⊠_, scale, signed, value}
-use Rattle.rounding.specs.Whole.{unit}
+use Rattle.rounding.specs.Whole.{unit, isNumber}
 
 infix 60 _∕_
 infixl 75 _∔_ _∸_
@@ -34,6 +35,11 @@ p ⋅ q = record { top = p .top ⊠ q .top; bottom = p .bottom * q .bottom }
 abbrev pub _÷_ : (p : Fraction) (d : ℕ) → Fraction
 p ÷ d = record { top = p .top; bottom = p .bottom * d }
 
--- what a finite float is exactly: so many units, over the units in 1
+-- what a number of the format is exactly: so many units, over the units in 1
 abbrev pub exact : Format → Float → Fraction
 exact f x = record { top = value f x; bottom = unit f }
+
+-- the float x is q: a number of the format, neither a NaN nor an infinity, and exactly q
+pub record Is (f : Format) (x : Float) (q : Fraction) : Type 0 where
+  pub number : isNumber f x ≡ true
+  pub same : Same (exact f x) q

@@ -1,4 +1,3 @@
 pub mod Fraction
 pub mod Sheet
-pub mod GreenLagrange
-pub mod Example
+pub mod Book

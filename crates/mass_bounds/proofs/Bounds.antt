@@ -1,4 +1,4 @@
--- Demand 3 of what `mass_lumped_plate_bending` leaves (01-scope 6): every place holds its vertex's sum of shares, and those sums are finite and near the exact masses.
+-- Demand 3 of what `mass_lumped_plate_bending` leaves (01-scope 6.1 to 6.4): every place holds its vertex's sum of shares, and those sums are finite and near the exact masses.
 use mathlib.Core.Path.{_≡_, refl}
 use mathlib.Core.Bool.{true, false}
 use mathlib.Core.List.{List}

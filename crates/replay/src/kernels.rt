@@ -2,15 +2,16 @@
 use crate::input;
 use crate::output;
 use refusal::Energy;
+use stvk_tri3::Strain;
 
 pub(crate) fn is_known(kind: u64) -> bool {
-    (2 <= kind) & (kind <= 5)
+    (2 <= kind) & (kind <= 5) | (kind == 8)
 }
 
 pub(crate) fn inputs(kind: u64) -> usize {
     match kind {
         2 => 24,
-        3 => 15,
+        3 | 8 => 15,
         4 => 20,
         _ => 18,
     }
@@ -23,11 +24,18 @@ fn put_bending(x: [[f64; 3]; 8]) {
     output::put_all(&answer.dwdp);
 }
 
-fn put_strain(x: [[f64; 3]; 8]) {
-    let answer = stvk_tri3::wdw(input::plane(x), [x[2], x[3], x[4]]);
+fn put_strain(answer: Strain) {
     output::start_line(answer.number as u64);
     output::put_all(&answer.w);
     output::put_all(&answer.dw);
+}
+
+fn put_ported(x: [[f64; 3]; 8]) {
+    put_strain(stvk_tri3::wdw(input::plane(x), [x[2], x[3], x[4]]));
+}
+
+fn put_green_lagrange(x: [[f64; 3]; 8]) {
+    put_strain(stvk_tri3::wdw_green_lagrange(input::plane(x), [x[2], x[3], x[4]]));
 }
 
 fn put_energy(answer: Energy) {
@@ -56,8 +64,9 @@ fn put_plate(x: [[f64; 3]; 8]) {
 pub(crate) fn answer(kind: u64, x: [[f64; 3]; 8]) {
     match kind {
         2 => put_bending(x),
-        3 => put_strain(x),
+        3 => put_ported(x),
         4 => put_stvk(x),
+        8 => put_green_lagrange(x),
         _ => put_plate(x),
     }
 }

@@ -36,7 +36,7 @@ exactly f K z y j n a room e h =
     go : (p : ℕ) (v : Num) → Equal (scale K v) y → Equal y (scale (p * K) n) → (v .plus + p * n .minus) * K ≡ (p * n .plus + v .minus) * K
     go p v h e = omega arith
 
-pow-eq : (j i k l : ℕ) → j + i ≡ k + l → 2 ^ j * 2 ^ i ≡ 2 ^ k * 2 ^ l
+pub pow-eq : (j i k l : ℕ) → j + i ≡ k + l → 2 ^ j * 2 ^ i ≡ 2 ^ k * 2 ^ l
 pow-eq j i k l e = sym (pow-add 2 j i) ∙ ap (λ (z : ℕ). 2 ^ z) e ∙ pow-add 2 k l
 
 -- ---- THE laws of exact arithmetic

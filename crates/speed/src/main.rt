@@ -7,6 +7,7 @@ mod masses;
 mod skins;
 
 use libc::STDOUT_FILENO;
+use stvk_tri3::Strain;
 
 const MASSES: u64 = 6;
 
@@ -54,12 +55,22 @@ fn plane(x: [[f64; 3]; 8]) -> [[f64; 2]; 3] {
     [[x[0][0], x[0][1]], [x[0][2], x[1][0]], [x[1][1], x[1][2]]]
 }
 
-fn strain(x: [[f64; 3]; 8], k: u64) -> f64 {
-    let answer = stvk_tri3::wdw(plane(x), [x[2], x[3], x[4]]);
+fn of_strain(answer: Strain, k: u64) -> f64 {
     let w = answer.w;
     let dw = answer.dw;
     let at = (k % 27) as usize;
     w[at % 3] + dw[at]
+}
+
+fn strain(x: [[f64; 3]; 8], k: u64) -> f64 {
+    of_strain(stvk_tri3::wdw(plane(x), [x[2], x[3], x[4]]), k)
+}
+
+fn green_lagrange(x: [[f64; 3]; 8], k: u64) -> f64 {
+    of_strain(
+        stvk_tri3::wdw_green_lagrange(plane(x), [x[2], x[3], x[4]]),
+        k,
+    )
 }
 
 fn stvk(x: [[f64; 3]; 8], k: u64) -> f64 {
@@ -93,6 +104,7 @@ fn call(kind: u64, x: [[f64; 3]; 8], k: u64) -> f64 {
         3 => strain(x, k),
         4 => stvk(x, k),
         5 => plate(x, k),
+        8 => green_lagrange(x, k),
         _ => 0.0,
     }
 }

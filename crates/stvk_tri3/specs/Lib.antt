@@ -2,3 +2,4 @@ pub mod Edges
 pub mod Strain
 pub mod GreenLagrange
 pub mod Stvk
+pub mod Example

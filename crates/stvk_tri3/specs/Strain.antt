@@ -26,7 +26,7 @@ use Rattle.stvk_tri3.specs.declared.strains.Values.{Values}
 unfoldable pub badInputOf : (ini : Tri2) (def : Tri3) → Bool
 badInputOf ini def = not (tri2.isFiniteOf ini && tri3.isFiniteOf def)
 
--- 4, one of the divisors of 01-scope 5.4 is zero: twice the area, or the norm of a contravariant vector before it is normalized; of 5.10: the normal's norm, or a dot
+-- 4, a divisor is zero: twice the area or a contravariant vector's norm before it is normalized (01-scope 5.4); of `wdw_green_lagrange` the normal's norm or one of the two dots (5.10)
 unfoldable pub zeroDivisorOf : Rest → Bool
 zeroDivisorOf rest = isZero (rest .«gd0_z» .by) || isZero (rest .«gu0_x» .by) || isZero (rest .«gu0_y» .by)
 

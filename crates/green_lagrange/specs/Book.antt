@@ -1,4 +1,4 @@
--- The Green-Lagrange strain as books have it: of a sheet at rest on (0, 0), (a, 0) and (0, b), from its deformed corners, in exact fractions.
+-- The Green-Lagrange strain as books have it (01-scope 6.5): of a sheet at rest on (0, 0), (a, 0) and (0, b), from its deformed corners, in exact fractions.
 use mathlib.Core.Path.{_≡_}
 use Prim.Native.Nat.{ℕ}
 use lib.Ieee.{Format}
@@ -6,7 +6,7 @@ use Rattle.float.specs.Lists.{_!_}
 use Rattle.refusal.specs.Refusal.{accepted}
 use Rattle.del_geo_core.specs.declared.tri3.Tri3.{Tri3}
 use Rattle.stvk_tri3.specs.declared.Strain.{Strain}
-use Rattle.green_lagrange.specs.Fraction.{Fraction, Same, _∕_, _∔_, _∸_, _⋅_, _÷_, exact}
+use Rattle.green_lagrange.specs.Fraction.{Fraction, Is, _∕_, _∔_, _∸_, _⋅_, _÷_, exact}
 
 -- F = dx/dX, three rows for x, y, z in space, two columns for X and Y in the sheet
 pub record Gradient : Type 0 where
@@ -52,8 +52,8 @@ module _ (f : Format) where
   }
 
   -- of ANY answer r: accepted, and its three values are that strain
-  pub record IsBook (a b : ℕ) (def : Tri3) (r : Strain) : Type 0 where
+  pub record IsBookStrain (a b : ℕ) (def : Tri3) (r : Strain) : Type 0 where
     pub accepts : r .number ≡ accepted
-    pub xx : Same (exact f (r .w ! 0)) (greenLagrange (gradient a b def) .XX)
-    pub yy : Same (exact f (r .w ! 1)) (greenLagrange (gradient a b def) .YY)
-    pub xy : Same (exact f (r .w ! 2)) (greenLagrange (gradient a b def) .XY)
+    pub xx : Is f (r .w ! 0) (greenLagrange (gradient a b def) .XX)
+    pub yy : Is f (r .w ! 1) (greenLagrange (gradient a b def) .YY)
+    pub xy : Is f (r .w ! 2) (greenLagrange (gradient a b def) .XY)
