@@ -71,6 +71,10 @@ static double call(uint64_t kind, const double x[24], uint64_t k) {
         memcpy(b, x + 6, 9 * sizeof *x);
         mitc_tri3_w_dw_ddw_plate_bending((const double (*)[2])p, (const double (*)[3])b, x[15], x[16], x[17], v);
         return v[0] + v[1 + at % 9] + v[10 + at];
+    case 8:
+        memcpy(b, x + 6, 9 * sizeof *x);
+        stvk_tri3_wdw_green_lagrange((const double (*)[2])p, (const double (*)[3])b, v);
+        return v[k % 27 % 3] + v[3 + k % 27];
     default:
         return 0;
     }

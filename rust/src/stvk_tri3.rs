@@ -14,10 +14,7 @@ pub fn wdw(p_ini: &[[f64; 2]; 3], p_def: &[[f64; 3]; 3]) -> Result<Strain, Refus
 }
 
 /// The Green-Lagrange strain of such a triangle in the sheet's own axes: (F^T F - I) / 2, as xx, yy and twice xy.
-pub fn wdw_green_lagrange(
-    p_ini: &[[f64; 2]; 3],
-    p_def: &[[f64; 3]; 3],
-) -> Result<Strain, Refusal> {
+pub fn wdw_green_lagrange(p_ini: &[[f64; 2]; 3], p_def: &[[f64; 3]; 3]) -> Result<Strain, Refusal> {
     let mut values = [0.0; ffi::STRAIN_VALUES];
     // SAFETY: references to arrays of the declared shapes, the lent one a local of its own.
     let number = unsafe { ffi::stvk_tri3_wdw_green_lagrange(p_ini, p_def, &mut values) };

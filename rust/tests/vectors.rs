@@ -95,10 +95,11 @@ fn bending_line(r: &mut Records) -> Option<Line> {
     }))
 }
 
-fn strain_line(r: &mut Records) -> Option<Line> {
+type Strains = fn(&[[f64; 2]; 3], &[[f64; 3]; 3]) -> Result<stvk_tri3::Strain, Refusal>;
+
+fn strain_line(r: &mut Records, wdw: Strains) -> Option<Line> {
     let (ini, def) = (r.points()?, r.points()?);
-    let answer = stvk_tri3::wdw(&ini, &def);
-    Some(kernel_line(answer, 30, |(w, dw)| {
+    Some(kernel_line(wdw(&ini, &def), 30, |(w, dw)| {
         [w.to_vec(), dw.concat().concat()].concat()
     }))
 }
@@ -152,18 +153,19 @@ fn every_record_is_answered_as_the_oracle_does() {
     let records = std::fs::read(replay.join("stdin")).expect("the records");
     let answers = std::fs::read_to_string(replay.join("stdout")).expect("the answers");
     let mut records = Records(&records);
-    let mut ran = [0; 8];
+    let mut ran = [0; 9];
     let mut answers = answers.lines().enumerate();
     for (at, want) in answers.by_ref().take_while(|(_, want)| *want != "?") {
         let kind = records.word().expect("a record for each answer");
         let got = match kind {
             1 => root_line(&mut records),
             2 => bending_line(&mut records),
-            3 => strain_line(&mut records),
+            3 => strain_line(&mut records, stvk_tri3::wdw),
             4 => stvk_line(&mut records),
             5 => plate_line(&mut records),
             6 => masses_line(&mut records),
             7 => skin_line(&mut records),
+            8 => strain_line(&mut records, stvk_tri3::wdw_green_lagrange),
             9 => {
                 let helper = records.count().expect("a helper");
                 records.numbers(HELPER_INPUTS[helper]).expect("its inputs");
