@@ -1,7 +1,9 @@
 //! Comparison of two files of answer lines.
 
-/// How many lines both have, how many of those differ, and the first place.
+/// How many lines there should be and how many there are, how many were looked at,
+/// how many of those differ, and the first place.
 pub struct Comparison {
+    pub lines: [usize; 2],
     pub compared: usize,
     pub differ: usize,
     pub first: Option<String>,
@@ -11,6 +13,7 @@ pub fn compare(expected: &str, actual: &str) -> Comparison {
     let pairs: Vec<_> = expected.lines().zip(actual.lines()).enumerate().collect();
     let different: Vec<_> = pairs.iter().filter(|(_, (e, a))| e != a).collect();
     Comparison {
+        lines: [expected.lines().count(), actual.lines().count()],
         compared: pairs.len(),
         differ: different.len(),
         first: different.first().map(|(i, (e, a))| place(i + 1, e, a)),

@@ -1,9 +1,9 @@
-//! Inputs of the four kernels.
+//! Inputs of the kernels.
 
 use crate::kernels;
 use crate::numbers::{self, moved};
 use crate::random::Random;
-use crate::record::{Record, BENDING, PLATE, STRAIN, STVK};
+use crate::record::{Record, BENDING, GREEN_LAGRANGE, PLATE, STRAIN, STVK};
 
 /// Corners at rest come first, then what is known of them deformed, then the
 /// single numbers.
@@ -25,7 +25,7 @@ pub fn layout(kind: u64) -> Layout {
     };
     match kind {
         BENDING => of(3, 4, 12, 0),
-        STRAIN => of(2, 3, 9, 0),
+        STRAIN | GREEN_LAGRANGE => of(2, 3, 9, 0),
         STVK => of(3, 3, 9, 2),
         PLATE => of(2, 3, 9, 3),
         _ => unreachable!("no kernel"),

@@ -1,12 +1,12 @@
-//! The fixed sample of the four kernels: chosen inputs, then drawn ones.
+//! The fixed sample of the kernels: chosen inputs, then drawn ones.
 
 use crate::kernel_cases::{
     generated, layout, over, right_angle, with_one_infinite, with_zero_divisors, Layout,
 };
-use crate::kernels;
 use crate::numbers::{self, power, scaled};
 use crate::random::Random;
-use crate::record::{Record, BENDING, PLATE, STRAIN, STVK};
+use crate::record::{Record, BENDING, GREEN_LAGRANGE, PLATE, STRAIN, STVK};
+use crate::strain_samples::{green_lagrange, strain};
 
 const DRAWN: usize = 330;
 
@@ -39,6 +39,7 @@ fn chosen(kind: u64) -> Vec<Vec<f64>> {
         STRAIN => strain(),
         STVK => stvk(),
         PLATE => plate(),
+        GREEN_LAGRANGE => green_lagrange(),
         _ => unreachable!("no kernel"),
     }
 }
@@ -106,114 +107,6 @@ fn subnormal_height() -> Vec<f64> {
     rest[4] = -1.0;
     rest[9] = power(486);
     [rest, [0.0; 12]].concat()
-}
-
-fn strain() -> Vec<Vec<f64>> {
-    let rest = [0.0, 0.0, 1.0, 0.0, 0.0, 1.0];
-    let pulled = [0.0, 0.0, 0.0, 2.0, 0.0, 0.0, 0.0, 1.0, 0.0];
-    let original = [
-        vec![0.1, 0.2, 0.2, 0.1, 0.3, 0.4],
-        vec![0.31, 0.04, 0.38, 0.13, 0.13, 0.07, 0.03, 0.42, 0.35],
-    ];
-    let clockwise = [0.0, 0.0, 0.0, 1.0, 1.0, 0.0];
-    let line = [0.0, 0.0, 1.0, 0.0, 2.0, 0.0];
-    let same_point = [1.0, 2.0, 1.0, 2.0, 1.0, 2.0];
-    let mut cases = vec![original.concat()];
-    for rest in [rest, clockwise, line, same_point] {
-        for deformed in [pulled, pulled.map(|x| -x), [0.0; 9], [-0.0; 9]] {
-            cases.push([rest.to_vec(), deformed.to_vec()].concat());
-        }
-    }
-    [
-        cases,
-        tiny_strains(),
-        aligned_strains(),
-        strains_of_minus_zero(),
-        cancelling_strains(),
-    ]
-    .concat()
-}
-
-/// Sides along the axes in all directions, made longer and shorter: the mixed
-/// factors are zeros of either sign.
-fn aligned_strains() -> Vec<Vec<f64>> {
-    let mut cases = Vec::new();
-    for (a, b) in [(1.0, 1.0), (-1.0, 1.0), (1.0, -1.0), (-1.0, -1.0)] {
-        for (c, d) in [(2.0, 2.0), (0.5, 2.0), (2.0, 0.5), (0.5, 0.5)] {
-            let deformed = [0.0, 0.0, 0.0, c, 0.0, 0.0, 0.0, d, 0.0];
-            for rest in [[0.0, 0.0, a, 0.0, 0.0, b], [0.0, 0.0, 0.0, a, b, 0.0]] {
-                cases.push([rest.to_vec(), deformed.to_vec()].concat());
-            }
-        }
-    }
-    cases
-}
-
-/// A side of a few smallest squares: half of a difference of squares is not
-/// the difference of the halves.
-fn tiny_strains() -> Vec<Vec<f64>> {
-    let [a, b, c] = [1.7 * power(-537), power(500), power(-537)];
-    vec![
-        vec![
-            0.0, 0.0, a, 0.0, 0.0, b, 0.0, 0.0, 0.0, c, 0.0, 0.0, 0.0, b, 0.0,
-        ],
-        vec![
-            0.0, 0.0, b, 0.0, 0.0, a, 0.0, 0.0, 0.0, b, 0.0, 0.0, 0.0, c, 0.0,
-        ],
-    ]
-}
-
-/// A sheet so thin that every product of a strain and a factor underflows,
-/// with strains of both signs: some sums are -0.
-fn strains_of_minus_zero() -> Vec<Vec<f64>> {
-    let thin = power(-530);
-    let mut cases = Vec::new();
-    for [x1, y1, x2, y2] in [
-        [0.0, 1.0, thin, 1.0],
-        [1.0, 0.0, 1.0, thin],
-        [0.0, 1.0, -thin, 1.0],
-        [1.0, 0.0, 1.0, -thin],
-    ] {
-        for [along, across] in [[1.0 - power(-20), 0.0], [1.0 - power(-20), power(-9)]] {
-            for side in [across, -across] {
-                let rest = [0.0, 0.0, x1, y1, x2, y2];
-                let deformed = [0.0, 0.0, 0.0, along, side, 0.0, along, -side, 0.0];
-                cases.push([rest.to_vec(), deformed.to_vec()].concat());
-            }
-        }
-    }
-    cases
-}
-
-/// Contravariant vectors at 60 and 180 degrees, drawn until the mixed factors
-/// of corner 0 cancel to a zero, with deformed sides that show its sign.
-fn cancelling_strains() -> Vec<Vec<f64>> {
-    let mut random = Random::of(60);
-    let deformed = |x: [f64; 3], y: [f64; 3]| [vec![0.0; 3], x.to_vec(), y.to_vec()].concat();
-    let (ones, zeros) = ([1.0, -1.0, 1.0], [0.0, 0.0, -0.0]);
-    let mut cases = Vec::new();
-    for first in [true, false] {
-        let (seen, sign) = if first { (ones, zeros) } else { (zeros, ones) };
-        let rest = loop {
-            let t = scaled(&mut random, 0).abs();
-            let (slanted, upright) = ([-3f64.sqrt() * t, t], [0.0, 1.0]);
-            let corners = if first {
-                [upright, slanted]
-            } else {
-                [slanted, upright]
-            };
-            let rest = [[0.0, 0.0], corners[0], corners[1]].concat();
-            let inputs = [rest.clone(), deformed(seen, sign)].concat();
-            if kernels::answer(STRAIN, &inputs).values[3 + 2 * 9] == 0.0 {
-                break rest;
-            }
-        };
-        for (a, b) in [(1.0, 1.0), (1.0, -1.0), (-1.0, 1.0), (-1.0, -1.0)] {
-            let sides = deformed(seen.map(|x| x * a), sign.map(|x| x * b));
-            cases.push([rest.clone(), sides].concat());
-        }
-    }
-    cases
 }
 
 fn stvk() -> Vec<Vec<f64>> {
@@ -334,8 +227,8 @@ fn at_edges(random: &mut Random, layout: &Layout) -> Vec<Record> {
     records
 }
 
-/// Divisors that vanish while the others do not; for bending and strain the
-/// chosen cases and the edges hold such.
+/// Divisors that vanish while the others do not; for bending and the strains
+/// the chosen cases and the edges hold such.
 fn zero_divisors(kind: u64, random: &mut Random, layout: &Layout) -> Vec<Record> {
     let groups: &[&[usize]] = match kind {
         STVK => &[&[1], &[2], &[3]],

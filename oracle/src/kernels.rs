@@ -1,7 +1,8 @@
-//! The four kernels of the original files, with the refusals that a traced
-//! run of the same text shows.
+//! The four kernels of the original files and the book's strain, with the refusals
+//! that a traced run of the same text shows.
 
 use crate::answer::{word, Answer};
+use crate::green_lagrange::wdw_green_lagrange;
 use crate::helpers::points;
 use crate::record;
 use crate::traced::{self, Traced};
@@ -20,6 +21,7 @@ pub fn answer(kind: u64, inputs: &[f64]) -> Answer {
         record::STRAIN => judge(inputs, strain, strain),
         record::STVK => judge(inputs, stvk, stvk),
         record::PLATE => judge(inputs, plate, plate),
+        record::GREEN_LAGRANGE => judge(inputs, green_lagrange, green_lagrange),
         _ => unreachable!("the reader lets no other kind through"),
     }
 }
@@ -57,6 +59,7 @@ pub fn divisors(kind: u64, inputs: &[f64]) -> Vec<f64> {
         record::STRAIN => trace(inputs, strain),
         record::STVK => trace(inputs, stvk),
         record::PLATE => trace(inputs, plate),
+        record::GREEN_LAGRANGE => trace(inputs, green_lagrange),
         _ => unreachable!("no kernel"),
     };
     divisors
@@ -89,6 +92,11 @@ fn bending<T: Number>(x: &[T]) -> Vec<T> {
 
 fn strain<T: Number>(x: &[T]) -> Vec<T> {
     let (w, dw) = stvk_tri3::wdw(&points(&x[..6]), &points(&x[6..]));
+    [w.to_vec(), dw.concat().concat()].concat()
+}
+
+fn green_lagrange<T: Number>(x: &[T]) -> Vec<T> {
+    let (w, dw) = wdw_green_lagrange(&points(&x[..6]), &points(&x[6..]));
     [w.to_vec(), dw.concat().concat()].concat()
 }
 

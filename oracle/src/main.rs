@@ -2,6 +2,10 @@
 
 mod answer;
 mod compare;
+mod exact;
+mod family;
+mod fraction;
+mod green_lagrange;
 mod helper_cases;
 mod helpers;
 mod kernel_cases;
@@ -19,6 +23,9 @@ mod sheet;
 mod skin;
 mod skin_cases;
 mod skin_samples;
+mod strain_samples;
+#[cfg(test)]
+mod strain_tests;
 #[cfg(test)]
 mod tests;
 mod traced;
@@ -33,8 +40,10 @@ const USAGE: &str = "usage:
   oracle generate KINDS COUNT SEED    COUNT fresh records of each kind
   oracle answer                       records in, answer lines out
   oracle compare EXPECTED ACTUAL      two files of answer lines
+  oracle family COUNT SEED            sheets whose strain by the book is exact: the corners, and COUNT drawn ones
+  oracle exact RECORDS LINES          answer lines for such sheets, judged by fractions
   oracle runs KINDS COUNT             runs of COUNT calls for `speed`, kinds 2 to 5 on the original files'
-                                      own test inputs, 1 on 2, 9 for calls of nothing
+                                      own test inputs, 8 on that of 3, 1 on 2, 9 for calls of nothing
   oracle panel TRIANGLES COUNT        a run of COUNT calls of masses on a grid of so many triangles
   oracle panel TRIANGLES COUNT nan    the same with a vertex that is not named and has no finite number
   oracle skin TRIANGLES COUNT         a run of COUNT calls of a whole skin on a grid of so many triangles
@@ -99,7 +108,18 @@ fn run(arguments: &[&str]) -> Result<ExitCode, String> {
             print!("{}", sheet::lines());
             Ok(ExitCode::SUCCESS)
         }
-        ["compare", expected, actual] => compare_files(expected, actual),
+        ["family", count, seed] => {
+            let mut random = Random::of(parsed(seed)?);
+            write_records(family::records(parsed(count)?, &mut random), &[])
+        }
+        ["compare", expected, actual] => {
+            let result = compare::compare(&text(expected)?, &text(actual)?);
+            Ok(report(&result, "compared"))
+        }
+        ["exact", records, lines] => {
+            let result = exact::judge(&bytes(records)?, &text(lines)?)?;
+            Ok(report(&result, "judged"))
+        }
         _ => Err(USAGE.to_string()),
     }
 }
@@ -145,10 +165,8 @@ fn generated(kind: u64, random: &mut Random) -> Record {
 fn run_of(kind: u64, count: u64) -> Record {
     let mut inputs = match kind {
         record::ROOT => vec![2.0],
-        record::BENDING | record::STRAIN | record::STVK | record::PLATE => {
-            kernel_samples::original(kind)
-        }
-        _ => Vec::new(),
+        record::MASSES | record::SKIN | record::HELPER => Vec::new(),
+        kernel => kernel_samples::original(kernel),
     };
     inputs.resize(24, 0.0);
     let words = [vec![count], record::words_of(&inputs)].concat();
@@ -187,22 +205,26 @@ fn answer_lines() -> Result<ExitCode, String> {
     Ok(ExitCode::SUCCESS)
 }
 
-fn compare_files(expected: &str, actual: &str) -> Result<ExitCode, String> {
-    let read = |file: &str| std::fs::read_to_string(file).map_err(|e| format!("{file}: {e}"));
-    let (expected, actual) = (read(expected)?, read(actual)?);
-    let result = compare::compare(&expected, &actual);
-    if let Some(first) = result.first {
+fn bytes(file: &str) -> Result<Vec<u8>, String> {
+    std::fs::read(file).map_err(|e| format!("{file}: {e}"))
+}
+
+fn text(file: &str) -> Result<String, String> {
+    std::fs::read_to_string(file).map_err(|e| format!("{file}: {e}"))
+}
+
+fn report(result: &compare::Comparison, done: &str) -> ExitCode {
+    if let Some(first) = &result.first {
         println!("{first}");
     }
-    let (lines, others) = (expected.lines().count(), actual.lines().count());
+    let [lines, others] = result.lines;
     if lines != others {
         println!("{lines} lines expected, {others} lines there");
     }
-    println!("{} compared, {} differ", result.compared, result.differ);
-    let same = result.differ == 0 && lines == others;
-    Ok(if same {
+    println!("{} {done}, {} differ", result.compared, result.differ);
+    if result.differ == 0 && lines == others {
         ExitCode::SUCCESS
     } else {
         ExitCode::FAILURE
-    })
+    }
 }

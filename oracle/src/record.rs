@@ -9,9 +9,20 @@ pub const STVK: u64 = 4;
 pub const PLATE: u64 = 5;
 pub const MASSES: u64 = 6;
 pub const SKIN: u64 = 7;
+pub const GREEN_LAGRANGE: u64 = 8;
 pub const HELPER: u64 = 9;
 
-pub const KINDS: [u64; 8] = [ROOT, BENDING, STRAIN, STVK, PLATE, MASSES, SKIN, HELPER];
+pub const KINDS: [u64; 9] = [
+    ROOT,
+    BENDING,
+    STRAIN,
+    STVK,
+    PLATE,
+    MASSES,
+    SKIN,
+    GREEN_LAGRANGE,
+    HELPER,
+];
 
 /// Input words of the helpers, the first entry for helper 1.
 pub const HELPER_INPUTS: [usize; 11] = [6, 6, 6, 4, 3, 3, 6, 9, 9, 6, 9];
@@ -91,7 +102,7 @@ impl<'a> Records<'a> {
         let words = match kind {
             ROOT => self.words(1),
             BENDING => self.words(24),
-            STRAIN => self.words(15),
+            STRAIN | GREEN_LAGRANGE => self.words(15),
             STVK => self.words(20),
             PLATE => self.words(18),
             MASSES => self.lists(MASSES_HEAD),

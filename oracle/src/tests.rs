@@ -4,11 +4,13 @@
 use crate::answer::{self, answer};
 use crate::helpers::points;
 use crate::random::Random;
-use crate::record::{self, numbers_of, Record, Records, BENDING, KINDS, PLATE, STRAIN, STVK};
+use crate::record::{
+    self, numbers_of, Record, Records, BENDING, GREEN_LAGRANGE, KINDS, PLATE, STRAIN, STVK,
+};
 use crate::{compare, generated, kernels, masses, sample, skin};
 use del_geo_core::{curve_linear_coords, edge, tri3, vec3};
 
-const KERNELS: [u64; 4] = [BENDING, STRAIN, STVK, PLATE];
+const KERNELS: [u64; 5] = [BENDING, STRAIN, STVK, PLATE, GREEN_LAGRANGE];
 
 fn values(kind: u64, inputs: &[f64]) -> Vec<f64> {
     let answer = kernels::answer(kind, inputs);
@@ -198,11 +200,13 @@ fn large_right_angles() {
         let strain = [0.0, 0.0, h, 0.0, 0.0, h];
         let stvk = [0.0, 0.0, 0.0, h, 0.0, 0.0, 0.0, h, 0.0];
         let bending = [0.0, h, 0.0, 0.0, -h, 0.0, 0.0, 0.0, 0.0, h, 0.0, 0.0];
-        assert_eq!(
-            refusal(STRAIN, &[&strain[..], &[0.0; 9]].concat()),
-            sheet,
-            "strain, 2^{e}"
-        );
+        for kind in [STRAIN, GREEN_LAGRANGE] {
+            assert_eq!(
+                refusal(kind, &[&strain[..], &[0.0; 9]].concat()),
+                sheet,
+                "kind {kind}, 2^{e}"
+            );
+        }
         assert_eq!(
             refusal(STVK, &[&stvk[..], &stvk, &[1.0; 2]].concat()),
             sheet,
@@ -301,6 +305,19 @@ fn listed_divisors(kind: u64, x: &[f64]) -> Vec<f64> {
             let points = [root3, 2.0, root3, 2.0, 3.0, 3.0, 3.0];
             [vec![2.0, 4.0], dots.to_vec(), points.to_vec()].concat()
         }
+        GREEN_LAGRANGE => {
+            let [p0, p1, p2]: [[f64; 2]; 3] = points(x);
+            let gx = [p1[0] - p0[0], p1[1] - p0[1], 0.0];
+            let gy = [p2[0] - p0[0], p2[1] - p0[1], 0.0];
+            let normal = vec3::cross(&gx, &gy);
+            let norm = vec3::norm(&normal);
+            let gz = vec3::scale(&normal, 1.0 / norm);
+            let dots = [
+                vec3::dot(&vec3::cross(&gy, &gz), &gx),
+                vec3::dot(&vec3::cross(&gz, &gx), &gy),
+            ];
+            vec![norm, dots[0], dots[1]]
+        }
         _ => unreachable!("no kernel"),
     }
 }
@@ -357,6 +374,9 @@ fn divisors_vanish_alone_in_the_sample() {
     }
     for place in 2..5 {
         assert!(sampled_alone(PLATE, &[place]), "divisor {place}");
+    }
+    for place in 0..3 {
+        assert!(sampled_alone(GREEN_LAGRANGE, &[place]), "divisor {place}");
     }
 }
 
@@ -474,8 +494,9 @@ fn malformed_records_end_the_answers() {
     assert_eq!(lines(&[1, four, 1, four], 1), format!("{good}?\n"));
     assert_eq!(lines(&[1, four, 1], 0), format!("{good}?\n"));
     assert_eq!(lines(&[1, four, 1], 3), format!("{good}?\n"));
-    assert_eq!(lines(&[8, four, 1, four], 0), "?\n");
-    assert_eq!(lines(&[0, four], 0), "?\n");
+    for kind in [0, 10, u64::MAX] {
+        assert_eq!(lines(&[kind, four, 1, four], 0), "?\n");
+    }
     for helper in [0, 12, u64::MAX] {
         assert_eq!(
             lines(&[[9, helper].to_vec(), vec![four; 9]].concat(), 0),

@@ -1,5 +1,8 @@
-//! Calls a routine of the original files many times, so that the instructions of
-//! one call can be counted. Runs and lines are those of `crates/speed`.
+//! Calls a routine of the original files, or the book's strain, many times, so that the
+//! instructions of one call can be counted. Runs and lines are those of `crates/speed`.
+
+#[path = "../green_lagrange.rs"]
+mod green_lagrange;
 
 use del_fem_cpu::{mitc_tri3, quadratic_bending, stvk_tri3};
 use std::io::Read;
@@ -29,6 +32,13 @@ fn bending(x: &Numbers, k: usize) -> f64 {
 fn strain(x: &Numbers, k: usize) -> f64 {
     let p_ini = [[x[0], x[1]], [x[2], x[3]], [x[4], x[5]]];
     let (w, dw) = stvk_tri3::wdw(&p_ini, &space(&x[6..15]));
+    let at = k % 27;
+    w[at % 3] + dw[at / 9][at / 3 % 3][at % 3]
+}
+
+fn green_lagrange(x: &Numbers, k: usize) -> f64 {
+    let p_ini = [[x[0], x[1]], [x[2], x[3]], [x[4], x[5]]];
+    let (w, dw) = green_lagrange::wdw_green_lagrange(&p_ini, &space(&x[6..15]));
     let at = k % 27;
     w[at % 3] + dw[at / 9][at / 3 % 3][at % 3]
 }
@@ -133,6 +143,7 @@ fn kernel(kind: u64, count: u64, words: &mut impl Iterator<Item = u64>) -> f64 {
         3 => strain,
         4 => stvk,
         5 => plate,
+        8 => green_lagrange,
         _ => nothing,
     };
     let x = std::array::from_fn(|_| f64::from_bits(next(words)));
