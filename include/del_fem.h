@@ -61,16 +61,16 @@ uint64_t root_sqrt_word(uint64_t w);
 uint32_t quadratic_bending_wdw(const double p_ini[4][3], const double p_def[4][3], double values[DEL_FEM_BENDING_VALUES]);
 
 /*
- * Three strains of a plane rest triangle that is deformed into space, and their derivatives by the deformed corners (01-scope 5.4).
+ * Three strains of a plane rest triangle that is deformed into space, and their derivatives by the deformed corners, as the original computes them (01-scope 5.4): the Green-Lagrange strain only
+ * where the heights on both edges at corner 0 are 1.
  * values: w[k] at k; dw[k][ino][idim] at 3 + (k * 3 + ino) * 3 + idim.
  * Returns 3; 4 where twice the rest area or a contravariant vector's norm is zero; 5; else 0.
  */
 uint32_t stvk_tri3_wdw(const double p_ini[3][2], const double p_def[3][3], double values[DEL_FEM_STRAIN_VALUES]);
 
 /*
- * The Green-Lagrange strain of such a triangle in the sheet's own axes, (F^T F - I) / 2 with the off-diagonal doubled, and its derivatives (01-scope 5.10). stvk_tri3_wdw gives that only where
- * the heights on both edges at corner 0 are 1.
- * values: xx, yy and xy at 0, 1, 2, as w above; dw as above.
+ * The Green-Lagrange strain of such a triangle in its own axes, (F^T F - I) / 2, and its derivatives (01-scope 5.10).
+ * values: xx, yy and twice xy at 0, 1, 2; dw as above.
  * Returns 3; 4 where the rest normal's norm or a dot that scales a contravariant vector is zero; 5; else 0.
  */
 uint32_t stvk_tri3_wdw_green_lagrange(const double p_ini[3][2], const double p_def[3][3], double values[DEL_FEM_STRAIN_VALUES]);

@@ -1,6 +1,5 @@
-//! Sheets whose strain by the book is exact in doubles: at rest on (0,0), (a,0), (0,b), where
-//! a and b are powers of two from 1 to 1,024; deformed corners of whole numbers up to 1,024
-//! either side of zero.
+//! Sheets whose strain by the book is exact in doubles: at rest on (0,0), (a,0), (0,b), each of
+//! a and b one of 1, 2, 4, .., 1,024; deformed coordinates whole, from -1,024 to 1,024.
 
 use crate::random::Random;
 use crate::record::{Record, GREEN_LAGRANGE};

@@ -23,7 +23,7 @@ use Rattle.stvk_tri3.specs.GreenLagrange.{restOf, IsGreenLagrange}
 use Rattle.stvk_tri3.specs.Strain.{badInputOf, badAnswerOf, wOf, dwOf, valuesOf}
 use Rattle.stvk_tri3.specs.declared.Strain.{Strain}
 use Rattle.stvk_tri3.proofs.GreenLagrangeAnswer.{numbers-exactly, accepted-values}
-use Rattle.green_lagrange.specs.Book.{Gradient, gradient, IsBookStrain}
+use Rattle.green_lagrange.specs.Book.{DeformationGradient, gradient, IsBookStrain}
 use Rattle.green_lagrange.specs.Sheet.{isRest, isWhole}
 use Rattle.green_lagrange.proofs.Corners.{edge, corners}
 use Rattle.green_lagrange.proofs.Factors.{gugu0Xx, gugu0Yy, gugu0Xy}
@@ -63,7 +63,7 @@ module _ (f : Format) {i j B S : ℕ} (m : Margins f i j B S) (pIni pDef : List 
   b+ : 0 < b
   b+ = pow-pos j
 
-  abbrev F : Gradient
+  abbrev F : DeformationGradient
   F = gradient f a b def
 
   column-x : Column (F .xX) (F .yX) (F .zX) (edge f (def .p0) (def .p1)) a

@@ -8,8 +8,8 @@ use Rattle.del_geo_core.specs.declared.tri3.Tri3.{Tri3}
 use Rattle.stvk_tri3.specs.declared.Strain.{Strain}
 use Rattle.green_lagrange.specs.Fraction.{Fraction, Is, _∕_, _∔_, _∸_, _⋅_, _÷_, exact}
 
--- F = dx/dX, three rows for x, y, z in space, two columns for X and Y in the sheet
-pub record Gradient : Type 0 where
+-- the deformation gradient F = dx/dX: three rows for x, y, z in space, two columns for X and Y in the sheet; xY is dx/dY
+pub record DeformationGradient : Type 0 where
   pub xX : Fraction
   pub xY : Fraction
   pub yX : Fraction
@@ -17,31 +17,34 @@ pub record Gradient : Type 0 where
   pub zX : Fraction
   pub zY : Fraction
 
--- a symmetric matrix in the sheet's own axes
+-- the entries of a symmetric matrix in the sheet's own axes; those of a strain with XY doubled, as engineers write it
 pub record Symmetric : Type 0 where
   pub XX : Fraction
   pub YY : Fraction
   pub XY : Fraction
 
--- F^T F: each entry is the product of two columns of F
-abbrev pub transposeTimes : Gradient → Symmetric
-transposeTimes F = record {
+abbrev pub identity : Symmetric
+identity = record { XX = 1 ∕ 1; YY = 1 ∕ 1; XY = 0 ∕ 1 }
+
+-- F^T F, the right Cauchy-Green tensor: each entry is the dot of two columns of F
+abbrev pub rightCauchyGreen : DeformationGradient → Symmetric
+rightCauchyGreen F = record {
   XX = F .xX ⋅ F .xX ∔ F .yX ⋅ F .yX ∔ F .zX ⋅ F .zX;
   YY = F .xY ⋅ F .xY ∔ F .yY ⋅ F .yY ∔ F .zY ⋅ F .zY;
   XY = F .xX ⋅ F .xY ∔ F .yX ⋅ F .yY ∔ F .zX ⋅ F .zY;
 }
 
 -- half of (F^T F - I), with the off-diagonal doubled
-abbrev pub greenLagrange : Gradient → Symmetric
-greenLagrange F = let C = transposeTimes F in record {
-  XX = (1 ∕ 2) ⋅ (C .XX ∸ (1 ∕ 1));
-  YY = (1 ∕ 2) ⋅ (C .YY ∸ (1 ∕ 1));
-  XY = (2 ∕ 1) ⋅ ((1 ∕ 2) ⋅ (C .XY ∸ (0 ∕ 1)));
+abbrev pub greenLagrange : DeformationGradient → Symmetric
+greenLagrange F = let C = rightCauchyGreen F in let I = identity in record {
+  XX = (1 ∕ 2) ⋅ (C .XX ∸ I .XX);
+  YY = (1 ∕ 2) ⋅ (C .YY ∸ I .YY);
+  XY = (2 ∕ 1) ⋅ ((1 ∕ 2) ⋅ (C .XY ∸ I .XY));
 }
 
 module _ (f : Format) where
-  -- from corner 0 to corner 1 the sheet goes a along X, from corner 0 to corner 2 it goes b along Y
-  abbrev pub gradient : (a b : ℕ) (def : Tri3) → Gradient
+  -- from corner 0 to corner 1 the sheet goes a along X, from corner 0 to corner 2 it goes b along Y: a column of F is a deformed edge over its length at rest
+  abbrev pub gradient : (a b : ℕ) (def : Tri3) → DeformationGradient
   gradient a b def = record {
     xX = (exact f (def .p1 .x) ∸ exact f (def .p0 .x)) ÷ a;
     xY = (exact f (def .p2 .x) ∸ exact f (def .p0 .x)) ÷ b;

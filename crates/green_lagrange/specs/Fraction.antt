@@ -1,4 +1,4 @@
--- Exact fractions, multiplied out (01-scope 6.4): a whole number over a natural one. Operations with a dot are those of fractions.
+-- Exact fractions, multiplied out (01-scope 6.4): a whole number over a natural one. `∔ ∸ ⋅ ÷` are their operations; a difference keeps its sign.
 use mathlib.Core.Path.{_≡_}
 use mathlib.Core.Bool.{true, false}
 use Prim.Native.Nat.{ℕ, _*_, _<_}

@@ -21,5 +21,6 @@ module _ (f : Format) where
   abbrev pub isWholePoint : (B : ℕ) → V3 → Bool
   isWholePoint B p = isWholeUpTo f B (p .x) && isWholeUpTo f B (p .y) && isWholeUpTo f B (p .z)
 
+  -- the three deformed corners are such points
   abbrev pub isWhole : (B : ℕ) → Tri3 → Bool
   isWhole B def = isWholePoint B (def .p0) && isWholePoint B (def .p1) && isWholePoint B (def .p2)
