@@ -5,7 +5,7 @@ use refusal::Energy;
 use stvk_tri3::Strain;
 
 pub(crate) fn is_known(kind: u64) -> bool {
-    (2 <= kind) & (kind <= 5) | (kind == 8)
+    ((2 <= kind) & (kind <= 5)) | (kind == 8)
 }
 
 pub(crate) fn inputs(kind: u64) -> usize {

@@ -32,6 +32,7 @@ filled f m p h =
       omega (arith, shl-lt s t (size-lt m), ap (λ (z : ℕ). 2 ^ z) all, powers f .0),
     )
 
+-- such a number is nearest to the root of its square
 own-root : (f : Format) (R : ℕ) → hid f ≤ R → R < 2 * hid f → Rounded f (R * R) R
 own-root f R h l =
     let H+ = pow-pos (prec f - 1) in
