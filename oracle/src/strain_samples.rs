@@ -252,32 +252,32 @@ fn subnormal_squares(random: &mut Random) -> Vec<Vec<f64>> {
     cases
 }
 
+/// Both orders of two rest sides; of the deformed sides, that of the first alone is not nothing.
+fn first_pulled(first: [f64; 2], second: [f64; 2]) -> [Vec<f64>; 2] {
+    let (pulled, none) = ([1.0, -1.0, power(200)], [0.0; 3]);
+    [
+        seen([first, second], [pulled, none]),
+        seen([second, first], [none, pulled]),
+    ]
+}
+
 /// The product of a contravariant vector's components is subnormal: twice of it is
-/// not the product with one of them doubled. The other deformed side is none.
+/// not the product with one of them doubled.
 fn subnormal_factors(random: &mut Random) -> Vec<Vec<f64>> {
-    let mut cases = Vec::new();
-    for _ in 0..4 {
+    let drawn = (0..4).flat_map(|_| {
         let long = [0.0, scaled(random, 460)];
         let slanted = [scaled(random, 0), scaled(random, -140)];
-        let side = [1.0, -1.0, power(200)];
-        cases.push(seen([long, slanted], [side, [0.0; 3]]));
-        cases.push(seen([slanted, long], [[0.0; 3], side]));
-    }
-    cases
+        first_pulled(long, slanted)
+    });
+    drawn.collect()
 }
 
 /// The normal is scaled to 0.75, and a cross with it has a subnormal component: twice of
-/// that is not the cross with a normal twice as long. The other deformed side is none.
+/// that is not the cross with a normal twice as long.
 fn subnormal_crosses() -> Vec<Vec<f64>> {
-    let mut cases = Vec::new();
-    for size in [1.0, 2.0, 5.0, 6.0] {
-        let long = [0.0, 1.5 * power(-238)];
-        let slanted = [power(-300), size * power(-1074)];
-        let side = [1.0, -1.0, power(200)];
-        cases.push(seen([long, slanted], [side, [0.0; 3]]));
-        cases.push(seen([slanted, long], [[0.0; 3], side]));
-    }
-    cases
+    let long = [0.0, 1.5 * power(-238)];
+    let of_size = |size| first_pulled(long, [power(-300), size * power(-1074)]);
+    [1.0, 2.0, 5.0, 6.0].into_iter().flat_map(of_size).collect()
 }
 
 /// The square of a contravariant vector's length is in range or just not.
