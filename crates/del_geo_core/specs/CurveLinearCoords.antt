@@ -11,4 +11,4 @@ module _ (f : Format) where
   contravariantOf g0 g1 g2 = let gu = crossOf f g1 g2 in overOf f gu (dotOf f gu g0)
 
   unfoldable pub inverseOf : (g0 g1 g2 : V3) → DualBasis
-  inverseOf g0 g1 g2 = record { gu0 = contravariantOf g0 g1 g2; gu1 = contravariantOf g1 g2 g0; gu2 = contravariantOf g2 g0 g1 }
+  inverseOf g0 g1 g2 = record { x = contravariantOf g0 g1 g2; y = contravariantOf g1 g2 g0; z = contravariantOf g2 g0 g1 }

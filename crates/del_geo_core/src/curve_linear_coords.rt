@@ -6,11 +6,11 @@ use crate::vec3;
 use crate::vec3::Divided;
 use crate::vec3::V3;
 
-// Three contravariant vectors, each with the dot that divided it.
+// Three contravariant vectors, each with the dot that divided it: gu[0] of the sources is gu.x.
 pub struct DualBasis {
-    pub gu0: Divided,
-    pub gu1: Divided,
-    pub gu2: Divided,
+    pub x: Divided,
+    pub y: Divided,
+    pub z: Divided,
 }
 
 // Across g1 and g2, scaled by 1 / its dot with g0.
@@ -24,8 +24,8 @@ pub fn contravariant(g0: V3, g1: V3, g2: V3) -> Divided
 pub fn inverse(g0: V3, g1: V3, g2: V3) -> DualBasis
     ensures { λ r. ⌜ r ≡ inverseOf binary64 g0 g1 g2 ⌝ }
 {
-    let gu0 = contravariant(g0, g1, g2);
-    let gu1 = contravariant(g1, g2, g0);
-    let gu2 = contravariant(g2, g0, g1);
-    DualBasis { gu0, gu1, gu2 }
+    let x = contravariant(g0, g1, g2);
+    let y = contravariant(g1, g2, g0);
+    let z = contravariant(g2, g0, g1);
+    DualBasis { x, y, z }
 }

@@ -40,10 +40,10 @@ module _ (f : Format) where
 
   unfoldable pub guGuOf : DualBasis → GuGu
   guGuOf gu = record {
-    rr = dotOf f (gu .gu0 .v) (gu .gu0 .v);
-    ss = dotOf f (gu .gu1 .v) (gu .gu1 .v);
-    sr = dotOf f (gu .gu0 .v) (gu .gu1 .v);
-    tt = dotOf f (gu .gu2 .v) (gu .gu2 .v);
+    rr = dotOf f (gu .x .v) (gu .x .v);
+    ss = dotOf f (gu .y .v) (gu .y .v);
+    sr = dotOf f (gu .x .v) (gu .y .v);
+    tt = dotOf f (gu .z .v) (gu .z .v);
   }
 
   unfoldable pub guOf : (p : Tri2) (thk : Float) → DualBasis

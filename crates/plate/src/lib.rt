@@ -74,10 +74,10 @@ fn gu_gu(gu: DualBasis) -> GuGu
     ensures { λ r. ⌜ r ≡ guGuOf binary64 gu ⌝ }
 {
     GuGu {
-        rr: vec3::dot(gu.gu0.v, gu.gu0.v),
-        ss: vec3::dot(gu.gu1.v, gu.gu1.v),
-        sr: vec3::dot(gu.gu0.v, gu.gu1.v),
-        tt: vec3::dot(gu.gu2.v, gu.gu2.v),
+        rr: vec3::dot(gu.x.v, gu.x.v),
+        ss: vec3::dot(gu.y.v, gu.y.v),
+        sr: vec3::dot(gu.x.v, gu.y.v),
+        tt: vec3::dot(gu.z.v, gu.z.v),
     }
 }
 

@@ -1,56 +1,59 @@
--- A row's number is given exactly where its test holds and that of no earlier row does: by induction on the rows.
+-- A number is given exactly where a row of it is the first whose test holds: by induction on the rows.
 use mathlib.Core.Path.{_≡_, refl, sym}
-use mathlib.Core.Bool.{Bool, true, false, not, cond, false≢true, true≢false}
-use mathlib.Core.List.{List, [], _∷_, _++_}
-use mathlib.Core.Logic.{_↔_}
-use Prim.Native.Nat.{ℕ}
-use lib.Dec.{eqb}
-use borrow.Author.Tests.{eqb-false, not-true}
+use mathlib.Core.Bool.{Bool, true, false, not, true≢false, false≢true}
+use mathlib.Core.List.{List, [], _∷_}
+use mathlib.Core.Logic.{_↔_, inl, inr}
+use Prim.Native.Nat.{ℕ, _<_}
+use lib.Dec.{eqb, ltb}
+use borrow.Author.Tests.{eqb-false, ltb-true, not-true}
 use Rattle.float.specs.Lists.{every}
 use Rattle.float.proofs.Scan.{both}
-use Rattle.refusal.specs.Refusal.{accepted, Row, _⇒_, firstOf, noneOf, apart}
+use Rattle.refusal.specs.Refusal.{accepted, Row, firstOf, Cause, Clear, Exactly}
 
-unequal : (k n : ℕ) → not (eqb k n) ≡ true → k ≡ n → ⊥
-unequal k n h = eqb-false k n (not-true (eqb k n) h)
+module _ (n : ℕ) (some : n ≡ accepted → ⊥) where
+  there : (rows : List Row) → firstOf rows ≡ n → Cause n rows
+  unfolding firstOf
+  there [] e = some (sym e)
+  there ((true, k) ∷ rows) e = inl (refl, e)
+  there ((false, k) ∷ rows) e = inr (refl, there rows e)
 
-absent : (n : ℕ) (rows : List Row) → apart n rows ≡ true → (n ≡ accepted → ⊥) → firstOf rows ≡ n → ⊥
+  back : (rows : List Row) → Cause n rows → firstOf rows ≡ n
+  unfolding firstOf
+  back ((true, k) ∷ rows) (inl (_, e)) = e
+  back ((true, k) ∷ rows) (inr (e, _)) = absurd (true≢false e)
+  back ((false, k) ∷ rows) (inl (e, _)) = absurd (false≢true e)
+  back ((false, k) ∷ rows) (inr (_, c)) = back rows c
+
+  -- THE law of a ladder
+  pub given-exactly : (rows : List Row) → firstOf rows ≡ n ↔ Cause n rows
+  given-exactly rows = (there rows, back rows)
+
+-- 0 is the number of none of these rows
+abbrev pub Refusing : List Row → Type 0
+Refusing rows = every (λ row. not (eqb (row .1) accepted)) rows ≡ true
+
+clear-there : (rows : List Row) → Refusing rows → firstOf rows ≡ accepted → Clear rows
 unfolding firstOf every
-absent n [] a z e = z (sym e)
-absent n ((true, k) ∷ rows) a z e = unequal k n (both _ _ a .0) e
-absent n ((false, k) ∷ rows) a z e = absent n rows (both (not (eqb k n)) _ a .1) z e
+clear-there [] z e = tt
+clear-there ((true, k) ∷ rows) z e = absurd (eqb-false k accepted (not-true _ (both _ _ z .0)) e)
+clear-there ((false, k) ∷ rows) z e = (refl, clear-there rows (both (not (eqb k accepted)) _ z .1) e)
 
-module _ (t : Bool) (n : ℕ) (after : List Row) where
-  reached : (before : List Row) → apart n before ≡ true → apart n after ≡ true → (n ≡ accepted → ⊥)
-      → firstOf (before ++ (t ⇒ n) ∷ after) ≡ n → (noneOf before ≡ true) × (t ≡ true)
-  unfolding firstOf every
-  reached [] a b z e = (refl, here t e)
-    where
-      here : (t : Bool) → cond t n (firstOf after) ≡ n → t ≡ true
-      here true e = refl
-      here false e = absurd (absent n after b z e)
-  reached ((true, k) ∷ before) a b z e = absurd (unequal k n (both _ _ a .0) e)
-  reached ((false, k) ∷ before) a b z e = reached before (both (not (eqb k n)) _ a .1) b z e
-
-  given : (before : List Row) → noneOf before ≡ true → t ≡ true → firstOf (before ++ (t ⇒ n) ∷ after) ≡ n
-  unfolding firstOf every
-  given [] h e = rw e
-  given ((true, k) ∷ before) h e = absurd (false≢true h)
-  given ((false, k) ∷ before) h e = given before h e
-
-  -- THE law of a refusal
-  pub exactly : (before : List Row) → apart n before ≡ true → apart n after ≡ true → (n ≡ accepted → ⊥)
-      → firstOf (before ++ (t ⇒ n) ∷ after) ≡ n ↔ ((noneOf before ≡ true) × (t ≡ true))
-  exactly before a b z = (reached before a b z, λ h. given before (h .0) (h .1))
+clear-back : (rows : List Row) → Clear rows → firstOf rows ≡ accepted
+unfolding firstOf
+clear-back [] c = refl
+clear-back ((true, k) ∷ rows) c = absurd (true≢false (c .0))
+clear-back ((false, k) ∷ rows) c = clear-back rows (c .1)
 
 -- nothing is refused exactly where no test holds
-pub accepted-exactly : (rows : List Row) → apart accepted rows ≡ true → firstOf rows ≡ accepted ↔ noneOf rows ≡ true
-unfolding firstOf every
-accepted-exactly [] a = ((λ e. refl), (λ e. refl))
-accepted-exactly ((true, k) ∷ rows) a = ((λ e. absurd (unequal k accepted (both _ _ a .0) e)), (λ e. absurd (false≢true e)))
-accepted-exactly ((false, k) ∷ rows) a = accepted-exactly rows (both (not (eqb k accepted)) _ a .1)
+pub clear-exactly : (rows : List Row) → Refusing rows → firstOf rows ≡ accepted ↔ Clear rows
+clear-exactly rows z = (clear-there rows z, clear-back rows)
 
--- no test of these rows holds: row by row
-pub none : (t : Bool) (n : ℕ) (rows : List Row) → noneOf ((t ⇒ n) ∷ rows) ≡ true ↔ ((t ≡ false) × (noneOf rows ≡ true))
-unfolding every
-none true n rows = ((λ e. absurd (false≢true e)), (λ h. absurd (true≢false (h .0))))
-none false n rows = ((λ e. (refl, e)), (λ h. h .1))
+pub exactly : (rows : List Row) → Refusing rows → Exactly (firstOf rows) rows
+exactly rows z = record { refused-exactly = λ n some. given-exactly n some rows; accepted-exactly = clear-exactly rows z }
+
+-- what is given is a row's number, so it is above m where all of them are
+pub first-above : (m : ℕ) (rows : List Row) → every (λ row. ltb m (row .1)) rows ≡ true → (firstOf rows ≡ accepted → ⊥) → m < firstOf rows
+unfolding firstOf every
+first-above m [] a z = absurd (z refl)
+first-above m ((true, k) ∷ rows) a z = ltb-true m k (both (ltb m k) _ a .0)
+first-above m ((false, k) ∷ rows) a z = first-above m rows (both (ltb m k) _ a .1) z

@@ -4,3 +4,4 @@ pub mod Unique
 pub mod Panel
 pub mod Listed
 pub mod ListedNumber
+pub mod Left

@@ -8,6 +8,7 @@ use native.Mathlib.Omega.{arith}
 use lib.Dec.{eqb}
 use lib.ListN.{length, getD}
 use borrow.Author.Tests.{ne-eqb}
+use Rattle.float.specs.Lists.{mapThrees}
 use Rattle.refusal.specs.Refusal.{accepted}
 use Rattle.refusal.specs.Listed.{firstRefusal, firstPlace, FirstAt, NoneRefused}
 
@@ -69,3 +70,17 @@ unfolding firstRefusal firstPlace
 none-place [] e = refl
 none-place (zero ∷ numbers) e = ap suc (none-place numbers e)
 none-place (suc m ∷ numbers) e = absurd (omega (arith, rw (refuses m) at e))
+
+-- the first refusal of answers, one for three names each: above m where every answer that refuses is
+pub threes-above : {A : Type 0} (g : A → A → A → ℕ) (m : ℕ) → ((x y z : A) → (g x y z ≡ accepted → ⊥) → m < g x y z) → (l : List A)
+    → (firstRefusal (mapThrees g l) ≡ accepted → ⊥) → m < firstRefusal (mapThrees g l)
+unfolding firstRefusal mapThrees
+threes-above g m above (x ∷ y ∷ z ∷ l) some = here (g x y z) (above x y z) (threes-above g m above l) some
+  where
+    here : (n : ℕ) → ((n ≡ accepted → ⊥) → m < n) → ((firstRefusal (mapThrees g l) ≡ accepted → ⊥) → m < firstRefusal (mapThrees g l))
+        → (firstRefusal (n ∷ mapThrees g l) ≡ accepted → ⊥) → m < firstRefusal (n ∷ mapThrees g l)
+    here zero h rest some = rest some
+    here (suc n) h rest some = rw (refuses n) (h (λ (e : suc n ≡ accepted). omega arith))
+threes-above g m above (x ∷ y ∷ []) some = absurd (some refl)
+threes-above g m above (x ∷ []) some = absurd (some refl)
+threes-above g m above [] some = absurd (some refl)

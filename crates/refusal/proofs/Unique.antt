@@ -6,16 +6,19 @@ use Prim.Native.Nat.{ℕ}
 use lib.Ieee.{Float, Format}
 use Rattle.float.proofs.Unique.{only}
 use Rattle.refusal.specs.Refusal.{kernelNumber}
-use Rattle.refusal.specs.Answers.{badEnergyOf, energyOf}
+use Rattle.refusal.specs.Answers.{zeroDivisorOf, badEnergyOf, energyOf}
 use Rattle.refusal.specs.Panel.{badLengthOf, namesBelow}
 use Rattle.refusal.specs.declared.Energy.{Energy}
+use Rattle.refusal.specs.declared.Tests.{Tests}
 
 pub first : (test : Bool) (number later : ℕ) {r q : ℕ} → r ≡ cond test number later → q ≡ cond test number later → r ≡ q
 first test number later = only
 
-pub kernel : (inputBad divisorZero answerBad : Bool) {r q : ℕ} → r ≡ kernelNumber inputBad divisorZero answerBad → q ≡ kernelNumber inputBad divisorZero answerBad
-    → r ≡ q
-kernel inputBad divisorZero answerBad = only
+pub kernel : (t : Tests) {r q : ℕ} → r ≡ kernelNumber t → q ≡ kernelNumber t → r ≡ q
+kernel t = only
+
+pub zero-divisor : (a b c : Float) {r q : Bool} → r ≡ zeroDivisorOf a b c → q ≡ zeroDivisorOf a b c → r ≡ q
+zero-divisor a b c = only
 
 pub bad-energy : (w : Float) (dw ddw : List Float) {r q : Bool} → r ≡ badEnergyOf w dw ddw → q ≡ badEnergyOf w dw ddw → r ≡ q
 bad-energy w dw ddw = only

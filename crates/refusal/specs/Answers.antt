@@ -1,5 +1,5 @@
--- Answer records that several kernels share: the values where nothing is refused, +0 throughout after a refusal (01-scope 2.1).
-use mathlib.Core.Bool.{Bool, cond, not, _&&_}
+-- Tests and answers that several kernels share (01-scope 2.1): the values where nothing is refused, +0 throughout after a refusal.
+use mathlib.Core.Bool.{Bool, cond, not, _&&_, _||_}
 use mathlib.Core.List.{List}
 use Prim.Native.Nat.{ℕ}
 use lib.Dec.{eqb}
@@ -7,9 +7,14 @@ use lib.Ieee.{Float, Format}
 use lib.Ieee.Scale.{finite}
 use lib.ListN.{replicate}
 use Rattle.float.specs.Lists.{allFinite}
+use Rattle.float.specs.Numbers.{isZero}
 use Rattle.float.specs.Ops.{Ops, ops}
 use Rattle.refusal.specs.Refusal.{accepted}
 use Rattle.refusal.specs.declared.Energy.{Energy}
+
+-- one of a kernel's three divisors is zero
+unfoldable pub zeroDivisorOf : (a b c : Float) → Bool
+zeroDivisorOf a b c = isZero a || isZero b || isZero c
 
 -- a number of a finished energy is not finite
 unfoldable pub badEnergyOf : (w : Float) (dw ddw : List Float) → Bool

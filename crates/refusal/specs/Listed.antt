@@ -1,14 +1,14 @@
--- The number and the place of a call over a list (01-scope 2.5): of its answers, one after the other, the first that is refused gives its number and its place.
+-- The number and the place of a call over a list (01-scope 2.5): what is tested early; then, of its answers one after the other, the first that is refused; then what is tested late.
 use mathlib.Core.Path.{_≡_}
-use mathlib.Core.Bool.{Bool, true, false, not, cond}
+use mathlib.Core.Bool.{cond}
 use mathlib.Core.List.{List, [], _∷_}
 use mathlib.Core.Logic.{_↔_, _⊎_}
-use Prim.Native.Nat.{ℕ, suc, _≤_, _<_}
-use lib.Dec.{eqb, leb}
+use Prim.Native.Nat.{ℕ, suc, _<_}
+use lib.Dec.{eqb}
 use lib.ListN.{length, getD}
-use Rattle.refusal.specs.Refusal.{accepted, badLength, badName, badInput, zeroDivisor, badAnswer, _⇒_, firstOf}
+use Rattle.refusal.specs.Refusal.{accepted, Row, firstOf, Cause, Clear}
 
--- of the answers' numbers the first that refuses, 0 where none does
+-- of these numbers the first that refuses, 0 where none does
 unfoldable pub firstRefusal : List ℕ → ℕ
 firstRefusal [] = accepted
 firstRefusal (n ∷ numbers) = cond (eqb n accepted) (firstRefusal numbers) n
@@ -18,15 +18,13 @@ unfoldable pub firstPlace : List ℕ → ℕ
 firstPlace [] = 0
 firstPlace (n ∷ numbers) = cond (eqb n accepted) (suc (firstPlace numbers)) 0
 
--- a length or a name is wrong, an answer is refused, a sum of the answers is not finite
-unfoldable pub listedNumber : (lengthBad nameBad : Bool) (numbers : List ℕ) (sumBad : Bool) → ℕ
-listedNumber lengthBad nameBad numbers sumBad =
-    let first = firstRefusal numbers in
-    firstOf (lengthBad ⇒ badLength ∷ nameBad ⇒ badName ∷ not (eqb first accepted) ⇒ first ∷ sumBad ⇒ badAnswer ∷ [])
+module _ (early : List Row) (numbers : List ℕ) (late : List Row) where
+  unfoldable pub listedNumber : ℕ
+  listedNumber = firstRefusal (firstOf early ∷ firstRefusal numbers ∷ firstOf late ∷ [])
 
--- 0 after 0, 1 and 2
-unfoldable pub listedPlace : (number : ℕ) (numbers : List ℕ) → ℕ
-listedPlace number numbers = cond (leb number badName) 0 (firstPlace numbers)
+  -- how many there are where what is tested late refuses; 0 where nothing does, and where what is tested early does
+  unfoldable pub listedPlace : ℕ
+  listedPlace = cond (eqb (firstOf early) accepted) (cond (eqb listedNumber accepted) 0 (firstPlace numbers)) 0
 
 abbrev pub NoneRefused : List ℕ → Type 0
 NoneRefused numbers = (j : ℕ) → getD numbers j accepted ≡ accepted
@@ -35,13 +33,13 @@ NoneRefused numbers = (j : ℕ) → getD numbers j accepted ≡ accepted
 abbrev pub FirstAt : List ℕ → (k n : ℕ) → Type 0
 FirstAt numbers k n = (getD numbers k accepted ≡ n) × ((j : ℕ) → j < k → getD numbers j accepted ≡ accepted)
 
--- each number is given, and for which place, exactly where its test holds and nothing before it is refused
-pub record ListedExactly (number place : ℕ) (lengthBad nameBad : Bool) (numbers : List ℕ) (sumBad : Bool) : Type 0 where
-  pub refused-1-exactly : number ≡ badLength ↔ lengthBad ≡ true
-  pub refused-2-exactly : number ≡ badName ↔ ((lengthBad ≡ false) × (nameBad ≡ true))
-  pub refused-3-exactly : (k : ℕ) → ((number ≡ badInput) × (place ≡ k)) ↔ ((lengthBad ≡ false) × (nameBad ≡ false) × FirstAt numbers k badInput)
-  pub refused-4-exactly : (k : ℕ) → ((number ≡ zeroDivisor) × (place ≡ k)) ↔ ((lengthBad ≡ false) × (nameBad ≡ false) × FirstAt numbers k zeroDivisor)
-  pub refused-5-exactly : (k : ℕ) → ((number ≡ badAnswer) × (place ≡ k))
-      ↔ ((lengthBad ≡ false) × (nameBad ≡ false) × (FirstAt numbers k badAnswer ⊎ (NoneRefused numbers × (sumBad ≡ true) × (k ≡ length numbers))))
-  pub accepted-exactly : number ≡ accepted ↔ ((lengthBad ≡ false) × (nameBad ≡ false) × NoneRefused numbers × (sumBad ≡ false))
-  pub no-place : number ≤ badName → place ≡ 0
+-- why n is given, and for which place
+abbrev pub ListedCause : (n k : ℕ) (early : List Row) (numbers : List ℕ) (late : List Row) → Type 0
+ListedCause n k early numbers late =
+    (Cause n early × (k ≡ 0)) ⊎ (Clear early × (FirstAt numbers k n ⊎ (NoneRefused numbers × Cause n late × (k ≡ length numbers))))
+
+-- each number is given, and for which place, exactly where its cause comes first
+pub record ListedExactly (number place : ℕ) (early : List Row) (numbers : List ℕ) (late : List Row) : Type 0 where
+  pub refused-exactly : (n k : ℕ) → (n ≡ accepted → ⊥) → ((number ≡ n) × (place ≡ k)) ↔ ListedCause n k early numbers late
+  pub accepted-exactly : number ≡ accepted ↔ (Clear early × NoneRefused numbers × Clear late)
+  pub no-place : number ≡ accepted → place ≡ 0

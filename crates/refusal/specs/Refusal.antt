@@ -1,11 +1,10 @@
 -- The refusal numbers by name, and the ladder that picks one (01-scope 2.1).
 use mathlib.Core.Path.{_≡_}
-use mathlib.Core.Bool.{Bool, true, false, not, cond}
+use mathlib.Core.Bool.{Bool, true, false, cond}
 use mathlib.Core.List.{List, [], _∷_}
-use mathlib.Core.Logic.{_↔_}
+use mathlib.Core.Logic.{_↔_, _⊎_}
 use Prim.Native.Nat.{ℕ}
-use lib.Dec.{eqb}
-use Rattle.float.specs.Lists.{every}
+use Rattle.refusal.specs.declared.Tests.{Tests}
 
 abbrev pub accepted : ℕ
 accepted = 0
@@ -30,6 +29,14 @@ zeroDivisor = 4
 abbrev pub badAnswer : ℕ
 badAnswer = 5
 
+-- a triangle turns right
+abbrev pub turned : ℕ
+turned = 6
+
+-- a stiffness is none that a sheet can have
+abbrev pub badStiffness : ℕ
+badStiffness = 7
+
 -- a mesh file is not as published
 abbrev pub badFile : ℕ
 badFile = 8
@@ -47,21 +54,30 @@ unfoldable pub firstOf : List Row → ℕ
 firstOf [] = accepted
 firstOf (row ∷ rows) = cond (row .0) (row .1) (firstOf rows)
 
--- a kernel's ladder: a number that it looks at is not finite, one of its divisors is zero, a number of its finished answer is not finite
-unfoldable pub kernelNumber : (inputBad divisorZero answerBad : Bool) → ℕ
-kernelNumber inputBad divisorZero answerBad = firstOf (inputBad ⇒ badInput ∷ divisorZero ⇒ zeroDivisor ∷ answerBad ⇒ badAnswer ∷ [])
+-- a row of number n is the first whose test holds: n may stand on several rows
+abbrev pub Cause : (n : ℕ) → List Row → Type 0
+Cause n [] = ⊥
+Cause n ((test, k) ∷ rows) = ((test ≡ true) × (k ≡ n)) ⊎ ((test ≡ false) × Cause n rows)
 
--- each of a kernel's numbers is given exactly where its test holds and that of no smaller one does
-pub record KernelExactly (number : ℕ) (inputBad divisorZero answerBad : Bool) : Type 0 where
-  pub refused-3-exactly : number ≡ badInput ↔ inputBad ≡ true
-  pub refused-4-exactly : number ≡ zeroDivisor ↔ ((inputBad ≡ false) × (divisorZero ≡ true))
-  pub refused-5-exactly : number ≡ badAnswer ↔ ((inputBad ≡ false) × (divisorZero ≡ false) × (answerBad ≡ true))
-  pub accepted-exactly : number ≡ accepted ↔ ((inputBad ≡ false) × (divisorZero ≡ false) × (answerBad ≡ false))
+-- no test holds
+abbrev pub Clear : List Row → Type 0
+Clear [] = Unit {0}
+Clear ((test, k) ∷ rows) = (test ≡ false) × Clear rows
 
--- no test of these rows holds
-abbrev pub noneOf : List Row → Bool
-noneOf rows = every (λ row. not (row .0)) rows
+-- each number is given exactly where its cause stands in the rows, and none exactly where they are clear
+pub record Exactly (number : ℕ) (rows : List Row) : Type 0 where
+  pub refused-exactly : (n : ℕ) → (n ≡ accepted → ⊥) → number ≡ n ↔ Cause n rows
+  pub accepted-exactly : number ≡ accepted ↔ Clear rows
 
--- n is the number of none of these rows
-abbrev pub apart : ℕ → List Row → Bool
-apart n rows = every (λ row. not (eqb (row .1) n)) rows
+-- the ladder of every kernel; a test that a kernel does not make is false
+abbrev pub kernelRows : Tests → List Row
+kernelRows t =
+    t .«bad_input» ⇒ badInput
+    ∷ t .«bad_stiffness» ⇒ badStiffness
+    ∷ t .turned ⇒ turned
+    ∷ t .«zero_divisor» ⇒ zeroDivisor
+    ∷ t .«bad_answer» ⇒ badAnswer
+    ∷ []
+
+unfoldable pub kernelNumber : Tests → ℕ
+kernelNumber t = firstOf (kernelRows t)

@@ -3,7 +3,7 @@ ghost use mathlib.Core.Path.{_≡_};
 ghost use mathlib.Core.Bool.{cond};
 ghost use lib.Ieee.{binary64};
 ghost use Rattle.refusal.specs.Refusal.{kernelNumber};
-ghost use Rattle.refusal.specs.Answers.{badEnergyOf, energyOf};
+ghost use Rattle.refusal.specs.Answers.{zeroDivisorOf, badEnergyOf, energyOf};
 ghost use Rattle.refusal.specs.Panel.{withinLimits, badLengthOf, namesBelow};
 
 pub const ACCEPTED: u32 = 0;
@@ -17,6 +17,10 @@ pub const BAD_INPUT: u32 = 3;
 pub const ZERO_DIVISOR: u32 = 4;
 // The finished answer has a NaN or an infinity in it.
 pub const BAD_ANSWER: u32 = 5;
+// A triangle turns right.
+pub const TURNED: u32 = 6;
+// A stiffness is none that a sheet can have.
+pub const BAD_STIFFNESS: u32 = 7;
 // A mesh file is not as published.
 pub const BAD_FILE: u32 = 8;
 
@@ -40,14 +44,31 @@ pub fn first(test: bool, number: u32, later: u32) -> u32
     if test { number } else { later }
 }
 
-// The number of a kernel: 3 where a number that it looks at is not finite, else 4 where one of its divisors is zero, else 5 where a number of its finished answer is
-// not finite.
-pub fn kernel(bad_input: bool, zero_divisor: bool, bad_answer: bool) -> u32
-    ensures { λ r. ⌜ r ≡ kernelNumber «bad_input» «zero_divisor» «bad_answer» ⌝ }
+// What a kernel tests, in the ladder's order; a test that it does not make is false.
+pub struct Tests {
+    pub bad_input: bool,
+    pub bad_stiffness: bool,
+    pub turned: bool,
+    pub zero_divisor: bool,
+    pub bad_answer: bool,
+}
+
+// The number of a kernel: that of the first test that holds.
+pub fn kernel(tests: Tests) -> u32
+    ensures { λ r. ⌜ r ≡ kernelNumber tests ⌝ }
 {
-    let last = first(bad_answer, BAD_ANSWER, ACCEPTED);
-    let later = first(zero_divisor, ZERO_DIVISOR, last);
-    first(bad_input, BAD_INPUT, later)
+    let answer = first(tests.bad_answer, BAD_ANSWER, ACCEPTED);
+    let divisor = first(tests.zero_divisor, ZERO_DIVISOR, answer);
+    let turned = first(tests.turned, TURNED, divisor);
+    let stiffness = first(tests.bad_stiffness, BAD_STIFFNESS, turned);
+    first(tests.bad_input, BAD_INPUT, stiffness)
+}
+
+// Whether one of three divisors is zero.
+pub fn zero_divisor(a: f64, b: f64, c: f64) -> bool
+    ensures { λ r. ⌜ r ≡ zeroDivisorOf a b c ⌝ }
+{
+    float::is_zero(a) | float::is_zero(b) | float::is_zero(c)
 }
 
 // Whether a number of a finished energy is not finite.

@@ -34,9 +34,9 @@ fn put_unit_normal_area(a: V3, b: V3, c: V3) {
 
 fn put_inverse(a: V3, b: V3, c: V3) {
     let answer = curve_linear_coords::inverse(a, b, c);
-    output::put_v3(answer.gu0.v);
-    output::put_v3(answer.gu1.v);
-    output::put_v3(answer.gu2.v);
+    output::put_v3(answer.x.v);
+    output::put_v3(answer.y.v);
+    output::put_v3(answer.z.v);
 }
 
 pub(crate) fn answer(helper: u64, x: [[f64; 3]; 8]) {

@@ -9,4 +9,6 @@ kernel-spec = tie.close (tie.spec
     (λ c κs. tt)
     (λ c κs. tt)
     (λ c κs. tt)
-    (λ c. rw (c .first3 .ensures, c .before .first2 .ensures, c .before .before .first .ensures)))
+    (λ c κs. tt)
+    (λ c κs. tt)
+    (λ c. cc))

@@ -1,0 +1,18 @@
+-- The vertices of a panel, from a flat list of two coordinates for each (01-scope 2.3).
+use mathlib.Core.List.{List}
+use Prim.Native.Nat.{ℕ, _+_, _*_, _/_}
+use lib.Ieee.{Float}
+use lib.ListN.{length}
+use Rattle.float.specs.Lists.{_!_}
+use Rattle.del_geo_core.specs.declared.tri2.Tri2.{Tri2}
+use Rattle.del_geo_core.specs.declared.tri2.V2.{V2}
+
+-- how many there are: a left-over last number is none
+abbrev pub verticesOf : (vtx2xy : List Float) → ℕ
+verticesOf vtx2xy = length vtx2xy / 2
+
+abbrev pub pointAt : (vtx2xy : List Float) (i : ℕ) → V2
+pointAt vtx2xy i = record { x = vtx2xy ! (i * 2); y = vtx2xy ! (i * 2 + 1) }
+
+unfoldable pub cornersAt : (vtx2xy : List Float) (i0 i1 i2 : ℕ) → Tri2
+cornersAt vtx2xy i0 i1 i2 = record { p0 = pointAt vtx2xy i0; p1 = pointAt vtx2xy i1; p2 = pointAt vtx2xy i2 }
