@@ -1,5 +1,6 @@
 pub mod Ladder
 pub mod KernelNumber
+pub mod EnergyAnswer
 pub mod Unique
 pub mod Panel
 pub mod Listed
