@@ -1,3 +1,2 @@
 pub mod StrainAnswer
-pub mod GreenLagrangeAnswer
 pub mod EnergyAnswer

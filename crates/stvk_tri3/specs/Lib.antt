@@ -1,4 +1,3 @@
-pub mod Edges
 pub mod Strain
 pub mod GreenLagrange
 pub mod Stvk

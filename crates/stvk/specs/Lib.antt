@@ -1,0 +1,2 @@
+pub mod Stvk
+pub mod Parts

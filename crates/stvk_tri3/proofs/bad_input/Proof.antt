@@ -1,0 +1,13 @@
+-- `bad_input` meets its contract: what its calls ensure, put in one after the other, is the definition.
+use Rattle.stvk_tri3.specs.Stvk.{badInputOf}
+use Rattle.stvk_tri3.proofs.bad_input.Statement.{statement}
+use Rattle.stvk_tri3.proofs.bad_input.Tie as tie
+
+pub bad-input-spec : {M : Type 1} → statement M
+unfolding badInputOf
+bad-input-spec = tie.close (tie.spec
+    (λ c κs. tt)
+    (λ c κs. tt)
+    (λ c κs. tt)
+    (λ c κs. tt)
+    (λ c. cc))
