@@ -1,18 +1,17 @@
-// Ported from stvk_tri3.rs: the strain of a triangle, and its StVK energy; by request a second strain. An index 0, 1, 2 of the source is x, y, z here.
+// Ported from stvk_tri3.rs: the strain of a triangle, and its StVK energy; by request a second strain. Here each gets its tests and its number; the numbers are made in `strain` and `stvk`.
 ghost use mathlib.Core.Path.{_≡_};
 ghost use lib.Ieee.{binary64};
 ghost use Rattle.stvk_tri3.specs.GreenLagrange.{IsGreenLagrange};
-ghost use Rattle.stvk_tri3.specs.Strain.{IsStrain};
+ghost use Rattle.stvk_tri3.specs.Strain.{testedOf, strainOf, IsStrain};
 ghost use Rattle.stvk_tri3.specs.Stvk.{badInputOf, IsStvk};
-
-mod green_lagrange;
-mod strains;
-
 use del_geo_core::tri2;
+use del_geo_core::tri2::Tri2;
 use del_geo_core::tri3;
 use del_geo_core::tri3::Tri3;
 use refusal::Energy;
 use refusal::Tests;
+use strain::Rest;
+use strain::Values;
 
 // Three strains and their derivatives: dw[k][ino][idim] of the source stands at (k * 3 + ino) * 3 + idim.
 pub struct Strain {
@@ -21,24 +20,46 @@ pub struct Strain {
     pub dw: [f64; 27],
 }
 
+fn tests(ini: Tri2, def: Tri3, rest: Rest, bad_answer: bool) -> Tests
+    ensures { λ r. ⌜ r ≡ testedOf ini def rest «bad_answer» ⌝ }
+{
+    Tests {
+        bad_input: !(tri2::is_finite(ini) & tri3::is_finite(def)),
+        bad_stiffness: false,
+        turned: false,
+        zero_divisor: refusal::zero_divisor(rest.gd0_z.by, rest.gu0.x.by, rest.gu0.y.by),
+        bad_answer,
+    }
+}
+
+// The values where nothing is refused, else +0 throughout.
+fn answer(number: u32, values: Values) -> Strain
+    ensures { λ r. ⌜ r ≡ strainOf binary64 number values ⌝ }
+{
+    let w = values.w;
+    let dw = values.dw;
+    if number == refusal::ACCEPTED {
+        Strain { number, w, dw }
+    } else {
+        Strain {
+            number,
+            w: [0.0; 3],
+            dw: [0.0; 27],
+        }
+    }
+}
+
 // The strains of a plane rest triangle that is deformed into space, and their derivatives by the deformed corners.
 pub fn wdw(p_ini: [[f64; 2]; 3], p_def: [[f64; 3]; 3]) -> Strain
     ensures { λ r. ⌜ IsStrain binary64 «p_ini» «p_def» r ⌝ }
 {
     let ini = tri2::corners(p_ini);
     let def = tri3::corners(p_def);
-    let rest = strains::rest_of(ini);
-    let values = strains::values_of(rest.gd0, edges::space(def), rest.gu0_x.v, rest.gu0_y.v);
-    let w = values.w;
-    let dw = values.dw;
-    let tests = Tests {
-        bad_input: strains::bad_input(ini, def),
-        bad_stiffness: false,
-        turned: false,
-        zero_divisor: refusal::zero_divisor(rest.gd0_z.by, rest.gu0_x.by, rest.gu0_y.by),
-        bad_answer: strains::bad_answer(w, dw),
-    };
-    strains::answer(refusal::kernel(tests), w, dw)
+    let rest = strain::rest_of(ini);
+    let values = strain::values_of(rest, def);
+    let bad_answer = !(float::all_finite(&values.w) & float::all_finite(&values.dw));
+    let tests = tests(ini, def, rest, bad_answer);
+    answer(refusal::kernel(tests), values)
 }
 
 // The Green-Lagrange strain in the sheet's own axes, (F^T F - I) / 2 with the off-diagonal doubled, and its derivatives: `wdw`, but for the rest triangle's normal and contravariant vectors.
@@ -47,18 +68,11 @@ pub fn wdw_green_lagrange(p_ini: [[f64; 2]; 3], p_def: [[f64; 3]; 3]) -> Strain
 {
     let ini = tri2::corners(p_ini);
     let def = tri3::corners(p_def);
-    let rest = green_lagrange::rest_of(ini);
-    let values = strains::values_of(rest.gd0, edges::space(def), rest.gu0_x.v, rest.gu0_y.v);
-    let w = values.w;
-    let dw = values.dw;
-    let tests = Tests {
-        bad_input: strains::bad_input(ini, def),
-        bad_stiffness: false,
-        turned: false,
-        zero_divisor: refusal::zero_divisor(rest.gd0_z.by, rest.gu0_x.by, rest.gu0_y.by),
-        bad_answer: strains::bad_answer(w, dw),
-    };
-    strains::answer(refusal::kernel(tests), w, dw)
+    let rest = strain::rest_of_green_lagrange(ini);
+    let values = strain::values_of_green_lagrange(rest, def);
+    let bad_answer = !(float::all_finite(&values.w) & float::all_finite(&values.dw));
+    let tests = tests(ini, def, rest, bad_answer);
+    answer(refusal::kernel(tests), values)
 }
 
 fn bad_input(p0: Tri3, p1: Tri3, lambda: f64, myu: f64) -> bool

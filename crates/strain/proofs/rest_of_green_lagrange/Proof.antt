@@ -1,0 +1,14 @@
+-- `strain::rest_of_green_lagrange` meets its contract: what its calls ensure, put in one after the other, is the definition.
+use Rattle.strain.specs.Strain.{restOfGreenLagrange}
+use Rattle.strain.proofs.rest_of_green_lagrange.Statement.{statement}
+use Rattle.strain.proofs.rest_of_green_lagrange.Tie as tie
+
+pub rest-of-green-lagrange-spec : {M : Type 1} → statement M
+unfolding restOfGreenLagrange
+rest-of-green-lagrange-spec = tie.close (tie.spec
+    (λ c κs. tt)
+    (λ c κs. tt)
+    (λ c κs. tt)
+    (λ c κs. tt)
+    (λ c κs. tt)
+    (λ c. cc))
