@@ -11,30 +11,16 @@ use Rattle.rounding.specs.Dyadic.{Dyad}
 use Rattle.rounding.proofs.Dyadic.{dyad-add, dyad-mul}
 use Rattle.rounding.proofs.Whole.{two-dyad}
 use Rattle.del_geo_core.specs.declared.tri2.Tri2.{Tri2}
-use Rattle.del_geo_core.specs.declared.vec3.V3.{V3}
-use Rattle.stvk_tri3.specs.GreenLagrange.{restOf}
-use Rattle.stvk_tri3.specs.Strain.{gugu0XxOf, gugu0YyOf, gugu0XyOf}
+use Rattle.strain.specs.Strain.{restOfGreenLagrange, gugu0Of}
+use Rattle.strain.specs.declared.GuGu.{GuGu}
 use Rattle.green_lagrange.specs.Sheet.{isRest}
 use Rattle.green_lagrange.proofs.Powers.{tiny, nothing}
 use Rattle.green_lagrange.proofs.Rest.{Small, room, gu0-x, gu0-y}
 use Rattle.green_lagrange.proofs.Vector.{eX, eY, eZ, Dyads}
 
 -- of a rest triangle
-module _ (f : Format) (ini : Tri2) where
-  abbrev gu0X : V3
-  gu0X = restOf f ini .«gu0_x» .v
-
-  abbrev gu0Y : V3
-  gu0Y = restOf f ini .«gu0_y» .v
-
-  abbrev pub gugu0Xx : V3
-  gugu0Xx = gugu0XxOf f gu0X gu0Y
-
-  abbrev pub gugu0Yy : V3
-  gugu0Yy = gugu0YyOf f gu0X gu0Y
-
-  abbrev pub gugu0Xy : V3
-  gugu0Xy = gugu0XyOf f gu0X gu0Y
+abbrev pub gugu0 : Format → Tri2 → GuGu
+gugu0 f ini = gugu0Of f (restOfGreenLagrange f ini .gu0)
 
 module _ (f : Format) (i j : ℕ) (s : Small f i j) (ini : Tri2) (rest : isRest f (2 ^ i) (2 ^ j) ini ≡ true) where
   open Ops (ops f) using (_⊗_)
@@ -43,31 +29,31 @@ module _ (f : Format) (i j : ℕ) (s : Small f i j) (ini : Tri2) (rest : isRest 
   abbrev l : ℕ
   l = low f
 
-  u : Dyads f (gu0X f ini) (l - i) eX 4
+  u : Dyads f (restOfGreenLagrange f ini .gu0 .x .v) (l - i) eX 4
   u = gu0-x f i j s ini rest .1
 
-  v : Dyads f (gu0Y f ini) (l - j) eY 4
+  v : Dyads f (restOfGreenLagrange f ini .gu0 .y .v) (l - j) eY 4
   v = gu0-y f i j s ini rest .1
 
   times : {x y : Float} {p q k : ℕ} {n o : Num} {C D : ℕ} → p + q ≡ k + l → k ≤ l → C * D < 4096 → Dyad f x p n C → Dyad f y q o D → Dyad f (x ⊗ y) k (n ⊠ o) (C * D)
   times {k = k} e h few a b = dyad-mul f k e (room f i j s k (omega arith)) a b (omega (arith, few, tiny f))
 
-  pub xx-factors : Dyads f (gugu0Xx f ini) (l - (i + i)) eX 16
-  unfolding gugu0XxOf
+  pub xx-factors : Dyads f (gugu0 f ini .xx) (l - (i + i)) eX 16
+  unfolding gugu0Of
   xx-factors =
       let e : l - i + (l - i) ≡ l - (i + i) + l = omega (arith, s .deep) in
       let vx = nothing f (v .x) (l - i) 4 in
       record { x = times e (omega arith) (lit≤ tt) (u .x) (u .x); y = times e (omega arith) (lit≤ tt) vx vx; z = times e (omega arith) (lit≤ tt) (u .x) vx }
 
-  pub yy-factors : Dyads f (gugu0Yy f ini) (l - (j + j)) eY 16
-  unfolding gugu0YyOf
+  pub yy-factors : Dyads f (gugu0 f ini .yy) (l - (j + j)) eY 16
+  unfolding gugu0Of
   yy-factors =
       let e : l - j + (l - j) ≡ l - (j + j) + l = omega (arith, s .deep) in
       let uy = nothing f (u .y) (l - j) 4 in
       record { x = times e (omega arith) (lit≤ tt) uy uy; y = times e (omega arith) (lit≤ tt) (v .y) (v .y); z = times e (omega arith) (lit≤ tt) uy (v .y) }
 
-  pub xy-factors : Dyads f (gugu0Xy f ini) (l - (i + j)) eZ 32
-  unfolding gugu0XyOf
+  pub xy-factors : Dyads f (gugu0 f ini .xy) (l - (i + j)) eZ 32
+  unfolding gugu0Of
   xy-factors =
       let e : l - i + (l - j) ≡ l - (i + j) + l = omega (arith, s .deep) in
       let d : l + (l - i) ≡ l - i + l = omega arith in

@@ -6,6 +6,7 @@ use native.Mathlib.Omega.{arith}
 use lib.Ieee.{Format, prec, emax, low}
 use Rattle.float.specs.Numbers.{isZero}
 use Rattle.float.proofs.Scan.{both}
+use Rattle.refusal.specs.Answers.{zeroDivisorOf}
 use Rattle.rounding.specs.Exact.{signed}
 use Rattle.rounding.specs.Dyadic.{Dyad, Room}
 use Rattle.rounding.specs.Whole.{isNatural}
@@ -16,8 +17,8 @@ use Rattle.del_geo_core.specs.Vec3.{normOf, overOf, unitOf, crossOf}
 use Rattle.del_geo_core.specs.declared.tri2.Tri2.{Tri2}
 use Rattle.del_geo_core.specs.declared.tri2.V2.{V2}
 use Rattle.del_geo_core.specs.declared.vec3.V3.{V3}
-use Rattle.stvk_tri3.specs.Strain.{gd0Of, zeroDivisorOf}
-use Rattle.stvk_tri3.specs.GreenLagrange.{restOf}
+use Rattle.edges.specs.Edges.{planeOf}
+use Rattle.strain.specs.Strain.{restOfGreenLagrange}
 use Rattle.green_lagrange.specs.Sheet.{isAt, isRest}
 use Rattle.green_lagrange.proofs.Powers.{tiny, power, nothing, root-power, inverse, not-zero}
 use Rattle.green_lagrange.proofs.Vector.{Nums, one, eX, eY, eZ, dot, times, Dyads, cross-exact, dot-exact, scale-exact}
@@ -43,10 +44,10 @@ module _ (f : Format) (i j : ℕ) (s : Small f i j) where
     l = low f
 
     abbrev gd0X : V3
-    gd0X = gd0Of f ini .x
+    gd0X = planeOf f ini .x
 
     abbrev gd0Y : V3
-    gd0Y = gd0Of f ini .y
+    gd0Y = planeOf f ini .y
 
     pub points : Placed f 0 0 (ini .p0) × Placed f (2 ^ i) 0 (ini .p1) × Placed f 0 (2 ^ j) (ini .p2)
     points =
@@ -55,7 +56,7 @@ module _ (f : Format) (i j : ℕ) (s : Small f i j) where
         (placed f 0 0 _ (u .0), placed f (2 ^ i) 0 _ (u .1), placed f 0 (2 ^ j) _ (t .1))
 
     pub edge-x : Dyads f gd0X (l + i) eX 1
-    unfolding gd0Of
+    unfolding planeOf
     edge-x =
         let o = points .0 in
         let p = points .1 in
@@ -68,7 +69,7 @@ module _ (f : Format) (i j : ℕ) (s : Small f i j) where
         }
 
     pub edge-y : Dyads f gd0Y (l + j) eY 1
-    unfolding gd0Of
+    unfolding planeOf
     edge-y =
         let o = points .0 in
         let p = points .2 in
@@ -106,22 +107,22 @@ module _ (f : Format) (i j : ℕ) (s : Small f i j) where
         let by = rw long at (dot-exact f (l + i + j) e (room (l + i + j) (omega arith)) gu g (omega (arith, tiny f))) in
         (not-zero f by, scale-exact f k h (room k (omega arith)) gu (inverse f (l - (i + j)) (omega (arith, s .deep)) (room (l - (i + j)) (omega arith)) by) (omega (arith, tiny f)))
 
-    pub gu0-x : (isZero (restOf f ini .«gu0_x» .by) ≡ false) × Dyads f (restOf f ini .«gu0_x» .v) (l - i) eX 4
-    unfolding restOf
+    pub gu0-x : (isZero (restOfGreenLagrange f ini .gu0 .x .by) ≡ false) × Dyads f (restOfGreenLagrange f ini .gu0 .x .v) (l - i) eX 4
+    unfolding restOfGreenLagrange
     gu0-x =
         across gd0X gd0Y _ (l - i) refl (omega arith) (omega (arith, s .deep)) (omega arith)
         (cross-exact f (l + j) (omega arith) (room (l + j) (omega arith)) edge-y gd0-z (omega (arith, tiny f))) edge-x
 
-    pub gu0-y : (isZero (restOf f ini .«gu0_y» .by) ≡ false) × Dyads f (restOf f ini .«gu0_y» .v) (l - j) eY 4
-    unfolding restOf
+    pub gu0-y : (isZero (restOfGreenLagrange f ini .gu0 .y .by) ≡ false) × Dyads f (restOfGreenLagrange f ini .gu0 .y .v) (l - j) eY 4
+    unfolding restOfGreenLagrange
     gu0-y =
         across gd0Y _ gd0X (l - j) refl (omega arith) (omega (arith, s .deep)) (omega arith)
         (cross-exact f (l + i) (omega arith) (room (l + i) (omega arith)) gd0-z edge-x (omega (arith, tiny f))) edge-y
 
-    norm-not-zero : isZero (restOf f ini .«gd0_z» .by) ≡ false
-    unfolding restOf unitOf overOf
+    norm-not-zero : isZero (restOfGreenLagrange f ini .«gd0_z» .by) ≡ false
+    unfolding restOfGreenLagrange unitOf overOf
     norm-not-zero = rw norm-is (not-zero f (normal .z))
 
-    pub divisors : zeroDivisorOf (restOf f ini) ≡ false
+    pub divisors : (let rest = restOfGreenLagrange f ini in zeroDivisorOf (rest .«gd0_z» .by) (rest .gu0 .x .by) (rest .gu0 .y .by)) ≡ false
     unfolding zeroDivisorOf
     divisors = rw (norm-not-zero, gu0-x .0, gu0-y .0)

@@ -7,15 +7,17 @@ use borrow.Author.Tests.{eq-eqb}
 use Rattle.float.specs.Lists.{every}
 use Rattle.root.specs.Root.{rootOf}
 use Rattle.refusal.specs.Refusal.{firstOf, kernelNumber}
+use Rattle.refusal.specs.Answers.{zeroDivisorOf}
 use Rattle.rounding.specs.Exact.{mag, sign, value}
 use Rattle.rounding.specs.Whole.{isWholeUpTo, isNatural}
 use Rattle.del_geo_core.specs.Tri2 as tri2
 use Rattle.del_geo_core.specs.Tri3 as tri3
 use Rattle.del_geo_core.specs.Vec3 as vec3
-use Rattle.stvk_tri3.specs.Edges as edges
+use Rattle.edges.specs.Edges as edges
+use Rattle.strain.specs.Strain as strain
 use Rattle.stvk_tri3.specs.Example.{atRest, pulled}
 use Rattle.stvk_tri3.specs.GreenLagrange.{wdwGreenLagrangeOf}
-use Rattle.stvk_tri3.specs.Strain as strain
+use Rattle.stvk_tri3.specs.Strain.{testedOf, testsOf, strainOf, answerOf, wdwOf}
 use Rattle.green_lagrange.specs.Book.{IsBookStrain}
 use Rattle.green_lagrange.specs.Sheet.{isRest, isWhole}
 use Rattle.green_lagrange.proofs.Theorem.{green-lagrange}
@@ -31,8 +33,7 @@ whole = refl
 pub met : IsBookStrain binary64 2 1 (tri3.cornersOf pulled) (wdwGreenLagrangeOf binary64 (tri2.cornersOf atRest) (tri3.cornersOf pulled))
 met = green-lagrange 1 0 (lit≤ tt) (lit≤ tt) atRest pulled refl at-rest whole
 
-pub not-ported : IsBookStrain binary64 2 1 (tri3.cornersOf pulled) (strain.wdwOf binary64 (tri2.cornersOf atRest) (tri3.cornersOf pulled)) → ⊥
-unfolding value mag sign sub mul div ofBits every rootOf firstOf kernelNumber vec3.isFiniteOf vec3.normOf vec3.overOf vec3.unitOf tri2.isFiniteOf tri3.isFiniteOf edges.edgesOf edges.glstrainOf
-    strain.badInputOf strain.zeroDivisorOf strain.badAnswerOf strain.gd0Of strain.restOf strain.gugu0XxOf strain.gugu0YyOf strain.gugu0XyOf strain.wOf strain.hogeOf strain.dwKOf
-    strain.dwOf strain.valuesOf strain.strainOf strain.wdwOf
+pub not-ported : IsBookStrain binary64 2 1 (tri3.cornersOf pulled) (wdwOf binary64 (tri2.cornersOf atRest) (tri3.cornersOf pulled)) → ⊥
+unfolding value mag sign sub mul div ofBits every rootOf firstOf kernelNumber zeroDivisorOf vec3.isFiniteOf vec3.normOf vec3.overOf vec3.unitOf tri2.isFiniteOf tri3.isFiniteOf edges.planeOf edges.spaceOf
+    edges.glstrainOf strain.restOf strain.gugu0Of strain.wOf strain.hogeOf strain.dwKOf strain.dwOf strain.valuesOf testedOf testsOf strainOf answerOf
 not-ported h = false≢true (eq-eqb _ _ (h .xx .same .is))

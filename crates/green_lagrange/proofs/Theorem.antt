@@ -1,6 +1,6 @@
 -- The theorem of 01-scope 6.5: no test refuses a sheet of the family, and each value, exact over 2 a^2, 2 b^2 or 2 a b, is the fraction that the columns of F give.
-use mathlib.Core.Path.{_≡_}
-use mathlib.Core.Bool.{true, false}
+use mathlib.Core.Path.{_≡_, refl}
+use mathlib.Core.Bool.{true, false, not, _&&_}
 use mathlib.Core.List.{List}
 use Prim.Native.Nat.{ℕ, _*_, _^_, _≤_, _<_}
 use native.Mathlib.Nat.{mul-pos, mul-le-mul}
@@ -8,7 +8,7 @@ use native.Mathlib.Omega.{arith}
 use lib.Dec.{lit≤, lit<}
 use lib.Pow.{pow-pos, pow-mono}
 use lib.Ieee.{Float, Format, binary64}
-use Rattle.float.specs.Lists.{every}
+use Rattle.float.specs.Lists.{every, allFinite}
 use Rattle.float.proofs.Scan.{every-append}
 use Rattle.refusal.specs.Refusal.{accepted}
 use Rattle.rounding.specs.Exact.{Num, Equal, _⊞_, _⊟_, _⊠_, scale, signed}
@@ -18,20 +18,21 @@ use Rattle.del_geo_core.specs.Tri3 as tri3
 use Rattle.del_geo_core.specs.Vec3 as vec3
 use Rattle.del_geo_core.specs.declared.tri2.Tri2.{Tri2}
 use Rattle.del_geo_core.specs.declared.tri3.Tri3.{Tri3}
-use Rattle.stvk_tri3.specs.Edges.{edgesOf}
-use Rattle.stvk_tri3.specs.GreenLagrange.{restOf, IsGreenLagrange}
-use Rattle.stvk_tri3.specs.Strain.{badInputOf, badAnswerOf, wOf, dwOf, valuesOf}
+use Rattle.strain.specs.Strain.{restOfGreenLagrange, wOf, dwOf, valuesOf}
+use Rattle.strain.specs.declared.Values.{Values}
+use Rattle.stvk_tri3.specs.GreenLagrange.{IsGreenLagrange}
+use Rattle.stvk_tri3.specs.Strain.{testedOf, testsOf}
 use Rattle.stvk_tri3.specs.declared.Strain.{Strain}
-use Rattle.stvk_tri3.proofs.GreenLagrangeAnswer.{numbers-exactly, accepted-values}
+use Rattle.stvk_tri3.proofs.StrainAnswer.{numbers-exactly, accepted-values}
 use Rattle.green_lagrange.specs.Book.{DeformationGradient, gradient, IsBookStrain}
 use Rattle.green_lagrange.specs.Sheet.{isRest, isWhole}
 use Rattle.green_lagrange.proofs.Corners.{edge, corners}
-use Rattle.green_lagrange.proofs.Factors.{gugu0Xx, gugu0Yy, gugu0Xy}
+use Rattle.green_lagrange.proofs.Factors.{gugu0}
 use Rattle.green_lagrange.proofs.Fraction.{reads-minus, reads-product, reads-one, reads-none, reads-itself, is-fraction}
 use Rattle.green_lagrange.proofs.Gradient.{Column, dot-reads, column}
 use Rattle.green_lagrange.proofs.Vector.{one, none, eX, eY, eZ, good}
 use Rattle.green_lagrange.proofs.Rest.{points, divisors}
-use Rattle.green_lagrange.proofs.Values.{glstrain, Margins, Component, xx, yy, xy}
+use Rattle.green_lagrange.proofs.Values.{Margins, Component, xx, yy, xy}
 
 -- what the factors along one axis leave of a dot: the strains along the edges one by one, as the fractions have them
 first : (u d : ℕ) (v p q r : Num) → Equal (scale d v) (scale u (p ⊠ one ⊞ q ⊠ none ⊞ r ⊠ none)) → Equal (scale d v) (scale u (one ⊠ p))
@@ -72,17 +73,17 @@ module _ (f : Format) {i j B S : ℕ} (m : Margins f i j B S) (pIni pDef : List 
   column-y : Column (F .xY) (F .yY) (F .zY) (edge f (def .p0) (def .p2)) b
   column-y = let c = corners f B def deformed in column f b b+ (c .2) (c .0)
 
-  x : Component f m ini rest def deformed (gugu0Xx f ini) eX (a * a)
+  x : Component f m ini rest def deformed (gugu0 f ini .xx) eX (a * a)
   x = xx f m ini rest def deformed
 
-  y : Component f m ini rest def deformed (gugu0Yy f ini) eY (b * b)
+  y : Component f m ini rest def deformed (gugu0 f ini .yy) eY (b * b)
   y = yy f m ini rest def deformed
 
-  z : Component f m ini rest def deformed (gugu0Xy f ini) eZ (a * b)
+  z : Component f m ini rest def deformed (gugu0 f ini .xy) eZ (a * b)
   z = xy f m ini rest def deformed
 
-  inputs-good : badInputOf ini def ≡ false
-  unfolding badInputOf tri2.isFiniteOf tri3.isFiniteOf vec3.isFiniteOf
+  inputs-good : not (tri2.isFiniteOf ini && tri3.isFiniteOf def) ≡ false
+  unfolding tri2.isFiniteOf tri3.isFiniteOf vec3.isFiniteOf
   inputs-good =
       let p = points f i j (m .small) ini rest in
       let c = corners f B def deformed in
@@ -104,24 +105,23 @@ module _ (f : Format) {i j B S : ℕ} (m : Margins f i j B S) (pIni pDef : List 
         good (c .2 .z .number),
       )
 
-  abbrev w : List Float
-  w = wOf f (glstrain f ini def) (gugu0Xx f ini) (gugu0Yy f ini) (gugu0Xy f ini)
+  abbrev values : Values
+  values = valuesOf f (restOfGreenLagrange f ini) def
 
-  answer-good : badAnswerOf w (dwOf f (edgesOf f def) (gugu0Xx f ini) (gugu0Yy f ini) (gugu0Xy f ini)) ≡ false
-  unfolding badAnswerOf wOf dwOf every
+  answer-good : not (allFinite (values .w) && allFinite (values .dw)) ≡ false
+  unfolding restOfGreenLagrange valuesOf wOf dwOf every
   answer-good = rw (good (x .number), good (y .number), good (z .number), every-append, every-append, x .derivatives, y .derivatives, z .derivatives)
 
   accepts : r .number ≡ accepted
-  unfolding restOf valuesOf
-  accepts = numbers-exactly f pIni pDef is .accepted-exactly .1 (inputs-good, divisors f i j (m .small) ini rest, answer-good)
+  unfolding testedOf testsOf
+  accepts = numbers-exactly f (restOfGreenLagrange f) pIni pDef is .accepted-exactly .1 (inputs-good, (refl, (refl, (divisors f i j (m .small) ini rest, (answer-good, tt)))))
 
-  w-is : r .w ≡ w
-  unfolding restOf valuesOf
-  w-is = accepted-values f pIni pDef is accepts .0
+  w-is : r .w ≡ values .w
+  w-is = accepted-values f (restOfGreenLagrange f) pIni pDef is accepts .0
 
   -- ---- THE law, over the format
   pub book : IsBookStrain f a b def r
-  unfolding wOf
+  unfolding restOfGreenLagrange valuesOf wOf
   book = record {
     accepts = accepts;
     xx = rw w-is (is-fraction f _ (x .number) (mul-pos (lit≤ tt) (mul-pos a+ a+))

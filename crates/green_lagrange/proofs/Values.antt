@@ -20,18 +20,18 @@ use Rattle.del_geo_core.specs.Vec3.{dotOf}
 use Rattle.del_geo_core.specs.declared.tri2.Tri2.{Tri2}
 use Rattle.del_geo_core.specs.declared.tri3.Tri3.{Tri3}
 use Rattle.del_geo_core.specs.declared.vec3.V3.{V3}
-use Rattle.stvk_tri3.specs.Edges.{edgesOf, glstrainOf}
-use Rattle.stvk_tri3.specs.Strain.{flat, gd0Of, hogeOf, dwKOf}
+use Rattle.edges.specs.Edges.{planeOf, spaceOf, glstrainOf}
+use Rattle.strain.specs.Strain.{flat, hogeOf, dwKOf}
 use Rattle.green_lagrange.specs.Sheet.{isRest, isWhole}
 use Rattle.green_lagrange.proofs.Corners.{edge, corners}
-use Rattle.green_lagrange.proofs.Factors.{gugu0Xx, gugu0Yy, gugu0Xy, xx-factors, yy-factors, xy-factors}
+use Rattle.green_lagrange.proofs.Factors.{gugu0, xx-factors, yy-factors, xy-factors}
 use Rattle.green_lagrange.proofs.Powers.{tiny, nothing}
 use Rattle.green_lagrange.proofs.Rest.{Small, room, edge-x, edge-y}
 use Rattle.green_lagrange.proofs.Vector.{Nums, one, none, eX, eY, eZ, dot, good, Dyads, sub-exact, dot-exact}
 
 -- the strains along the edges
 abbrev pub glstrain : Format → Tri2 → Tri3 → V3
-glstrain f ini def = glstrainOf f (gd0Of f ini) (edgesOf f def)
+glstrain f ini def = glstrainOf f (planeOf f ini) (spaceOf f def)
 
 -- the digits suffice, where B bounds the corners' coordinates and S the squares of a and b: a strain along the edges has at most six products of two edges' coordinates in it and one square, and a
 -- value is three of them times factors of size 32 at most; a derivative is two products of 64 at most by an edge's coordinate
@@ -66,12 +66,12 @@ module _ (f : Format) {i j B S : ℕ} (m : Margins f i j B S) (ini : Tri2) (rest
   W< : W < 2 ^ prec f
   W< = lt-of-le-of-lt (omega arith) (m .derivatives)
 
-  deformed-x : Dyads f (edgesOf f def .x) l d1 W
-  unfolding edgesOf
+  deformed-x : Dyads f (spaceOf f def .x) l d1 W
+  unfolding spaceOf
   deformed-x = let c = corners f B def deformed in sub-exact f (whole-room f) (c .1) (c .0) W<
 
-  deformed-y : Dyads f (edgesOf f def .y) l d2 W
-  unfolding edgesOf
+  deformed-y : Dyads f (spaceOf f def .y) l d2 W
+  unfolding spaceOf
   deformed-y = let c = corners f B def deformed in sub-exact f (whole-room f) (c .2) (c .0) W<
 
   -- ---- the strains along the edges, in halves
@@ -113,7 +113,7 @@ module _ (f : Format) {i j B S : ℕ} (m : Margins f i j B S) (ini : Tri2) (rest
   pub record Component (g : V3) (n : Nums) (d : ℕ) : Type 0 where
     pub number : Number f (dotOf f (glstrain f ini def) g)
     pub is : Equal (scale (2 * d) (value f (dotOf f (glstrain f ini def) g))) (scale (unit f) (dot gl n))
-    pub derivatives : allFinite (flat (dwKOf f (edgesOf f def) g)) ≡ true
+    pub derivatives : allFinite (flat (dwKOf f (spaceOf f def) g)) ≡ true
 
   module _ {g : V3} {k : ℕ} {n : Nums} {C : ℕ} (k≤ : k ≤ l) (k+ : 0 < k) (C≤ : C ≤ 32) (a : Dyads f g k n C) where
     r : Room f k
@@ -141,7 +141,7 @@ module _ (f : Format) {i j B S : ℕ} (m : Margins f i j B S) (ini : Tri2) (rest
         let h : 64 * W < 2 ^ prec f = lt-of-le-of-lt (omega arith) w in
         good (dyad-add f r (dyad-mul f k refl r b d h) (dyad-mul f k refl r c e h) w .number)
 
-    derivatives-finite : allFinite (flat (dwKOf f (edgesOf f def) g)) ≡ true
+    derivatives-finite : allFinite (flat (dwKOf f (spaceOf f def) g)) ≡ true
     unfolding dwKOf hogeOf every
     derivatives-finite =
         let two : C + C < 2 ^ prec f = omega (arith, few, tiny f) in
@@ -172,11 +172,11 @@ module _ (f : Format) {i j B S : ℕ} (m : Margins f i j B S) (ini : Tri2) (rest
       rw (← pow-add) (sym (pow-add 2 (l - (p + q)) (p + q)) ∙ ap (λ (z : ℕ). 2 ^ z) e)
 
   -- ---- THE laws of the three values
-  pub xx : Component (gugu0Xx f ini) eX (2 ^ i * 2 ^ i)
+  pub xx : Component (gugu0 f ini .xx) eX (2 ^ i * 2 ^ i)
   xx = component (omega arith) (omega (arith, m .small .deep)) (lit≤ tt) (xx-factors f i j (m .small) ini rest) (2 ^ i * 2 ^ i) (product i i (omega arith))
 
-  pub yy : Component (gugu0Yy f ini) eY (2 ^ j * 2 ^ j)
+  pub yy : Component (gugu0 f ini .yy) eY (2 ^ j * 2 ^ j)
   yy = component (omega arith) (omega (arith, m .small .deep)) (lit≤ tt) (yy-factors f i j (m .small) ini rest) (2 ^ j * 2 ^ j) (product j j (omega arith))
 
-  pub xy : Component (gugu0Xy f ini) eZ (2 ^ i * 2 ^ j)
+  pub xy : Component (gugu0 f ini .xy) eZ (2 ^ i * 2 ^ j)
   xy = component (omega arith) (omega (arith, m .small .deep)) (lit≤ tt) (xy-factors f i j (m .small) ini rest) (2 ^ i * 2 ^ j) (product i j (omega arith))

@@ -20,7 +20,7 @@ pub struct Rest {
 }
 
 // Products of contravariant components.
-pub(crate) struct GuGu {
+pub struct GuGu {
     pub xx: V3,
     pub yy: V3,
     pub xy: V3,

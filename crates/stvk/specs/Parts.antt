@@ -1,5 +1,5 @@
 -- What parts of the code give for which the definition has no name: what serves several entries of the Hessian at once.
-use lib.Ieee.{Float, Format}
+use lib.Ieee.{Format}
 use Rattle.float.specs.Ops.{Ops, ops}
 use Rattle.del_geo_core.specs.declared.mat3_row_major.Matrix3.{Matrix3}
 use Rattle.del_geo_core.specs.declared.tri2.V2.{V2}
