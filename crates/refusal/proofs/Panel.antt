@@ -2,7 +2,7 @@
 use mathlib.Core.Path.{_≡_}
 use mathlib.Core.Bool.{true, false, _&&_}
 use mathlib.Core.List.{List}
-use Prim.Native.Nat.{ℕ, _*_, _/_, _%_, _≤_, _<_}
+use Prim.Native.Nat.{ℕ, _+_, _*_, _/_, _%_, _≤_, _<_}
 use native.Mathlib.Omega.{arith}
 use lib.Dec.{leb, ltb, eqb}
 use lib.ListN.{length, getD}
@@ -26,3 +26,15 @@ sized vertices names places e =
 
 pub named : (count : ℕ) (names : List ℕ) → namesBelow count names ≡ true → (k : ℕ) → k < length names → getD names k 0 < count
 named count names e k h = ltb-true _ _ (every-at (λ name. ltb name count) names k 0 e h)
+
+-- at a turn of a loop that takes three names: the last of them is in the list, and each is a vertex's
+pub record Turn (count : ℕ) (names : List ℕ) (i : ℕ) : Type 0 where
+  pub inside : i + 2 < length names
+  pub first : getD names i 0 < count
+  pub second : getD names (i + 1) 0 < count
+  pub third : getD names (i + 2) 0 < count
+
+pub at-turn : (count : ℕ) (names : List ℕ) → length names % 3 ≡ 0 → namesBelow count names ≡ true → (i : ℕ) → i % 3 ≡ 0 → i < length names → Turn count names i
+at-turn count names threes below i third less =
+    let h : i + 2 < length names = omega arith in
+    record { inside = h; first = named _ _ below i less; second = named _ _ below (i + 1) (omega arith); third = named _ _ below (i + 2) h }
