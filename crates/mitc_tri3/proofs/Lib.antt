@@ -1,3 +1,4 @@
 pub mod PlateAnswer
+pub mod MassesReturns
 pub mod MassesAnswer
 pub mod Vertex

@@ -1,4 +1,3 @@
 pub mod Plate
 pub mod Masses
-pub mod Vertex
 pub mod Example

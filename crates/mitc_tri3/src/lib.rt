@@ -1,12 +1,11 @@
-// Ported from mitc_tri3.rs: the energy of a plate triangle (its numbers are crate `plate`'s), and the lumped masses of a panel.
+// Ported from mitc_tri3.rs: the energy of a plate triangle and the lumped masses of a panel. What is refused stands here, the numbers in crates `plate` and `masses`.
 ghost use mathlib.Core.Path.{_≡_};
 ghost use lib.Ieee.{binary64};
 ghost use Rattle.mitc_tri3.specs.Masses.{IsMasses};
-ghost use Rattle.mitc_tri3.specs.Plate.{badInputOf, zeroDivisorOf, IsPlate};
+ghost use Rattle.mitc_tri3.specs.Plate.{badInputOf, IsPlate};
 
-mod masses;
+mod panel;
 
-use del_geo_core::curve_linear_coords::DualBasis;
 use del_geo_core::tri2;
 use del_geo_core::tri2::Tri2;
 use del_geo_core::tri3;
@@ -17,6 +16,7 @@ use refusal::BAD_INPUT;
 use refusal::BAD_LENGTH;
 use refusal::BAD_NAME;
 use refusal::Energy;
+use refusal::Tests;
 
 fn bad_input(p: Tri2, u: Tri3, thk: f64, lambda: f64, myu: f64) -> bool
     ensures { λ r. ⌜ r ≡ badInputOf p u thk lambda myu ⌝ }
@@ -26,12 +26,6 @@ fn bad_input(p: Tri2, u: Tri3, thk: f64, lambda: f64, myu: f64) -> bool
         & float::is_finite(thk)
         & float::is_finite(lambda)
         & float::is_finite(myu))
-}
-
-fn zero_divisor(gu: DualBasis) -> bool
-    ensures { λ r. ⌜ r ≡ zeroDivisorOf gu ⌝ }
-{
-    float::is_zero(gu.gu0.by) | float::is_zero(gu.gu1.by) | float::is_zero(gu.gu2.by)
 }
 
 // The energy, bending and shear, of a plate of thickness thk over the plane corners p, with its gradient and Hessian by u: at each corner the displacement in z and the
@@ -51,10 +45,13 @@ pub fn w_dw_ddw_plate_bending(
     let w = plate::w(s);
     let dw = plate::dw(s);
     let ddw = plate::ddw(s);
-    let bad_input = bad_input(p, u, thk, lambda, myu);
-    let zero_divisor = zero_divisor(s.gu);
-    let bad_answer = refusal::bad_energy(w, dw, ddw);
-    let number = refusal::kernel(bad_input, zero_divisor, bad_answer);
+    let number = refusal::kernel(Tests {
+        bad_input: bad_input(p, u, thk, lambda, myu),
+        bad_stiffness: false,
+        turned: false,
+        zero_divisor: refusal::zero_divisor(s.gu.x.by, s.gu.y.by, s.gu.z.by),
+        bad_answer: refusal::bad_energy(w, dw, ddw),
+    });
     refusal::answer_energy(number, w, dw, ddw)
 }
 
@@ -75,11 +72,11 @@ pub fn mass_lumped_plate_bending(
     if !refusal::names_below(tri2vtx, vertices) {
         return BAD_NAME;
     }
-    if masses::bad_input(tri2vtx, vtx2xy, thick, rho) {
+    if panel::bad_input(tri2vtx, vtx2xy, thick, rho) {
         return BAD_INPUT;
     }
     float::clear(vtx2mass);
-    masses::add_all(tri2vtx, vtx2xy, thick, rho, vtx2mass);
+    panel::add_all(tri2vtx, vtx2xy, thick, rho, vtx2mass);
     if !float::all_finite(vtx2mass) {
         float::clear(vtx2mass);
         return BAD_ANSWER;

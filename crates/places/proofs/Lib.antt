@@ -1,3 +1,4 @@
 pub mod Places
 pub mod Vertex
+pub mod Plane
 pub mod Unique

@@ -1,10 +1,10 @@
 -- `w_dw_ddw_plate_bending` meets its contract: what its calls ensure, put in one after the other, is the definition.
-use Rattle.mitc_tri3.specs.Plate.{wDwDdwPlateBendingOf}
+use Rattle.mitc_tri3.specs.Plate.{wDwDdwPlateBendingOf, testsOf, plateOf}
 use Rattle.mitc_tri3.proofs.w_dw_ddw_plate_bending.Statement.{statement}
 use Rattle.mitc_tri3.proofs.w_dw_ddw_plate_bending.Tie as tie
 
 pub w-dw-ddw-plate-bending-spec : {M : Type 1} → statement M
-unfolding wDwDdwPlateBendingOf
+unfolding wDwDdwPlateBendingOf testsOf plateOf
 w-dw-ddw-plate-bending-spec = tie.close (tie.spec
     (λ c κs. tt)
     (λ c κs. tt)
