@@ -18,10 +18,12 @@ use Rattle.refusal.proofs.Panel.{sized}
 use Rattle.rounding.specs.Whole.{isNumber}
 use Rattle.rounding.proofs.Whole.{number-iff}
 use Rattle.mitc_tri3.specs.Example.{points, thick, rho}
-use Rattle.mitc_tri3.specs.Masses.{pointAt, verticesOf, pointFinite, namedFinite, badInputOf, massesOf, bufferOf, IsMasses}
-use Rattle.mitc_tri3.specs.Vertex.{trianglesOf, shareOf}
-use Rattle.mitc_tri3.proofs.MassesAnswer.{accepted-exactly, accepted-masses}
-use Rattle.mitc_tri3.proofs.Vertex.{masses-sized, masses-hold}
+use Rattle.places.specs.Plane.{verticesOf, pointAt, pointFinite, namedFinite}
+use Rattle.masses.specs.Masses.{massesOf}
+use Rattle.masses.specs.Vertex.{trianglesOf, shareOf}
+use Rattle.masses.proofs.Vertex.{masses-sized, masses-hold}
+use Rattle.mitc_tri3.specs.Masses.{badInputOf, bufferOf, IsMasses}
+use Rattle.mitc_tri3.proofs.MassesAnswer.{numbers-exactly, accepted-masses}
 use Rattle.mass_bounds.specs.Range.{wholeAt, inRange}
 use Rattle.mass_bounds.specs.Bounds.{NearExact, Demand3}
 use Rattle.mass_bounds.specs.Example.{names, untouched}
@@ -32,7 +34,6 @@ use Rattle.mass_bounds.proofs.Vertex.{vertex}
 use Rattle.mass_bounds.proofs.Sums.{add-up, sum-near}
 
 module _ (f : Format) {B R N : ℕ} (m : Margins f B R N) (tri2vtx : List ℕ) (vtx2xy : List Float) (thick rho : Float) (before : List Float)
-    (size : length before ≡ verticesOf vtx2xy * 3) (names : namesBelow (verticesOf vtx2xy) tri2vtx ≡ true) (few : length tri2vtx ≤ N)
     (range : inRange f B R tri2vtx vtx2xy thick rho ≡ true) where
   abbrev vertices : ℕ
   vertices = verticesOf vtx2xy
@@ -41,71 +42,66 @@ module _ (f : Format) {B R N : ℕ} (m : Margins f B R N) (tri2vtx : List ℕ) (
   masses = massesOf f tri2vtx vtx2xy thick rho before
 
   -- ---- the masses of a panel in range, whether or not they are accepted
-  masses-near : NearExact f tri2vtx vtx2xy thick rho masses
-  masses-near = record {
-    sized = masses-sized f tri2vtx vtx2xy thick rho before size names;
-    numbers = every-iff (isNumber f) masses nan .1 place;
-    near = λ v k h k3. rw (holds v k h k3) (vertex f m tri2vtx vtx2xy thick rho few range v k .1);
-  }
-    where
-      holds : (v k : ℕ) → v < vertices → k < 3 → masses ! (v * 3 + k) ≡ total f (shareOf f k thick rho) (trianglesOf v tri2vtx vtx2xy)
-      holds = masses-hold f tri2vtx vtx2xy thick rho before size names
+  module _ (size : length before ≡ vertices * 3) (below : namesBelow vertices tri2vtx ≡ true) (few : length tri2vtx ≤ N) where
+    masses-near : NearExact f tri2vtx vtx2xy thick rho masses
+    masses-near = record {
+      sized = masses-sized f tri2vtx vtx2xy thick rho before size below;
+      numbers = every-iff (isNumber f) masses nan .1 place;
+      near = λ v k h k3. rw (holds v k h k3) (vertex f m tri2vtx vtx2xy thick rho few range v k .1);
+    }
+      where
+        holds : (v k : ℕ) → v < vertices → k < 3 → masses ! (v * 3 + k) ≡ total f (shareOf f k thick rho) (trianglesOf v tri2vtx vtx2xy)
+        holds = masses-hold f tri2vtx vtx2xy thick rho before size below
 
-      place : (j : ℕ) → j < length masses → isNumber f (masses ! j) ≡ true
-      place j h =
-          let s : length masses ≡ vertices * 3 = masses-sized f tri2vtx vtx2xy thick rho before size names in
-          let e : j / 3 * 3 + j % 3 ≡ j = omega arith in
-          let v = vertex f m tri2vtx vtx2xy thick rho few range (j / 3) (j % 3) in
-          rw (← holds (j / 3) (j % 3) (omega arith) (omega arith), e) at (number-iff f _ .1 (v .0))
+        place : (j : ℕ) → j < length masses → isNumber f (masses ! j) ≡ true
+        place j h =
+            let s : length masses ≡ vertices * 3 = masses-sized f tri2vtx vtx2xy thick rho before size below in
+            let e : j / 3 * 3 + j % 3 ≡ j = omega arith in
+            let v = vertex f m tri2vtx vtx2xy thick rho few range (j / 3) (j % 3) in
+            rw (← holds (j / 3) (j % 3) (omega arith) (omega arith), e) at (number-iff f _ .1 (v .0))
+
+    masses-finite : allFinite masses ≡ true
+    masses-finite = every-iff finite masses nan .1 (λ j h. both (fits f (masses ! j)) _ (every-at (isNumber f) masses j nan (masses-near .numbers) h) .1)
 
   inputs-good : badInputOf tri2vtx vtx2xy thick rho ≡ false
   unfolding badInputOf namedFinite
   inputs-good =
       let (t, r, whole) = in-range f B vtx2xy R tri2vtx thick rho range in
-      rw (is-true (finite thick) (t .number .fine), is-true (finite rho) (r .number .fine), every-iff _ tri2vtx 0 .1 (good whole))
+      rw (is-true (finite thick) (t .number .fine), is-true (finite rho) (r .number .fine), every-iff _ tri2vtx 0 .1 (λ j h. good (getD tri2vtx j 0) (every-at _ tri2vtx j 0 whole h)))
     where
-      good : every (wholeAt f B vtx2xy) tri2vtx ≡ true → (j : ℕ) → j < length tri2vtx → pointFinite (pointAt vtx2xy (getD tri2vtx j 0)) ≡ true
-      good whole j h =
-          let p = point f B vtx2xy (getD tri2vtx j 0) (every-at (wholeAt f B vtx2xy) tri2vtx j 0 whole h) in
-          let q = pointAt vtx2xy (getD tri2vtx j 0) in
-          rw (is-true (finite (q .x)) (p .0 .number .fine), is-true (finite (q .y)) (p .1 .number .fine))
+      good : (i : ℕ) → wholeAt f B vtx2xy i ≡ true → pointFinite (pointAt vtx2xy i) ≡ true
+      good i e = let p = point f B vtx2xy i e in rw (is-true (finite (pointAt vtx2xy i .x)) (p .0 .number .fine), is-true (finite (pointAt vtx2xy i .y)) (p .1 .number .fine))
 
-  masses-finite : allFinite masses ≡ true
-  masses-finite = every-iff finite masses nan .1 (λ j h. both (fits f (masses ! j)) _ (every-at (isNumber f) masses j nan (masses-near .numbers) h) .1)
+  -- ---- THE theorem of demand 3, of a format with these margins: with the right lengths there are no more than N names
+  module _ {r : ℕ} {after : List Float} (is : IsMasses f tri2vtx vtx2xy thick rho before r after) (few : badLengthOf vertices (length tri2vtx) (length before) ≡ false → length tri2vtx ≤ N) where
+    accepts : badLengthOf vertices (length tri2vtx) (length before) ≡ false → namesBelow vertices tri2vtx ≡ true → r ≡ accepted
+    accepts lengths below =
+        numbers-exactly f tri2vtx vtx2xy thick rho before is .accepted-exactly .1
+        (lengths, (rw below, (inputs-good, (rw (masses-finite (sized _ _ _ lengths .1) below (few lengths)), tt))))
 
--- ---- THE theorem of demand 3
+    named : r ≡ accepted → namesBelow vertices tri2vtx ≡ true
+    named e = not-false _ (numbers-exactly f tri2vtx vtx2xy thick rho before is .accepted-exactly .0 e .1 .0)
+
+    near : r ≡ accepted → NearExact f tri2vtx vtx2xy thick rho after
+    near e =
+        let lengths = numbers-exactly f tri2vtx vtx2xy thick rho before is .accepted-exactly .0 e .0 in
+        rw (accepted-masses f tri2vtx vtx2xy thick rho before is e) (masses-near (sized _ _ _ lengths .1) (named e) (few lengths))
+
+    pub demand : Demand3 f tri2vtx vtx2xy thick rho before r after
+    demand = record {
+      accepts = accepts;
+      near = near;
+      add-up = λ e. add-up f tri2vtx vtx2xy thick rho (named e);
+      sum-near = λ e. sum-near f tri2vtx vtx2xy thick rho (named e) after (near e);
+    }
+
+-- ---- binary64
 margins : Margins binary64 1048576 (2 ^ 40) (maxTriangles * 3)
 margins = record { wide = lit< tt; few = lit≤ tt; high = lit≤ tt }
 
-module _ (tri2vtx : List ℕ) (vtx2xy : List Float) (thick rho : Float) (before : List Float) {r : ℕ} {after : List Float}
-    (is : IsMasses binary64 tri2vtx vtx2xy thick rho before r after) (range : inRange binary64 1048576 (2 ^ 40) tri2vtx vtx2xy thick rho ≡ true) where
-  accepts : badLengthOf (verticesOf vtx2xy) (length tri2vtx) (length before) ≡ false → namesBelow (verticesOf vtx2xy) tri2vtx ≡ true → r ≡ accepted
-  accepts lengths names =
-      let size = sized _ _ _ lengths .1 in
-      let few = sized _ _ _ lengths .2 in
-      accepted-exactly binary64 tri2vtx vtx2xy thick rho before is .1 (
-        lengths,
-        rw names,
-        inputs-good binary64 margins tri2vtx vtx2xy thick rho before size names few range,
-        rw (masses-finite binary64 margins tri2vtx vtx2xy thick rho before size names few range),
-      )
-
-  near : r ≡ accepted → NearExact binary64 tri2vtx vtx2xy thick rho after
-  near e =
-      let tests = accepted-exactly binary64 tri2vtx vtx2xy thick rho before is .0 e in
-      rw (accepted-masses binary64 tri2vtx vtx2xy thick rho before is e)
-      (masses-near binary64 margins tri2vtx vtx2xy thick rho before (sized _ _ _ (tests .0) .1) (not-false _ (tests .1)) (sized _ _ _ (tests .0) .2) range)
-
-  named : r ≡ accepted → namesBelow (verticesOf vtx2xy) tri2vtx ≡ true
-  named e = not-false _ (accepted-exactly binary64 tri2vtx vtx2xy thick rho before is .0 e .1)
-
-  pub demand-3 : Demand3 binary64 tri2vtx vtx2xy thick rho before r after
-  demand-3 = record {
-    accepts = accepts;
-    near = near;
-    add-up = λ e. add-up binary64 tri2vtx vtx2xy thick rho (named e);
-    sum-near = λ e. sum-near binary64 tri2vtx vtx2xy thick rho (named e) after (near e);
-  }
+pub demand-3 : (tri2vtx : List ℕ) (vtx2xy : List Float) (thick rho : Float) (before : List Float) {r : ℕ} {after : List Float} → IsMasses binary64 tri2vtx vtx2xy thick rho before r after
+    → inRange binary64 1048576 (2 ^ 40) tri2vtx vtx2xy thick rho ≡ true → Demand3 binary64 tri2vtx vtx2xy thick rho before r after
+demand-3 tri2vtx vtx2xy thick rho before is range = demand binary64 margins tri2vtx vtx2xy thick rho before range is (λ lengths. sized _ _ _ lengths .2)
 
 pub met : NearExact binary64 names points thick rho (bufferOf binary64 names points thick rho untouched)
 met = let d = demand-3 names points thick rho untouched (refl, refl) meets in d .near (d .accepts right-lengths right-names)

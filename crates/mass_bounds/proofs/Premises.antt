@@ -14,7 +14,7 @@ use Rattle.rounding.proofs.Margin.{Between}
 use Rattle.rounding.proofs.Whole.{number-iff, Coordinate, coordinate}
 use Rattle.del_geo_core.specs.declared.tri2.V2.{V2}
 use Rattle.del_geo_core.specs.declared.tri2.Tri2.{Tri2}
-use Rattle.mitc_tri3.specs.Masses.{pointAt}
+use Rattle.places.specs.Plane.{pointAt}
 use Rattle.mass_bounds.specs.Range.{between, wholeAt, inRange}
 
 is-between : (f : Format) (R : ℕ) (x : Float) → between f R x ≡ true → Between f R x

@@ -7,12 +7,12 @@ use lib.Ieee.{binary64, fits}
 use lib.ListN.{length}
 use Rattle.float.specs.Lists.{every, foldThrees}
 use Rattle.refusal.specs.Panel.{withinLimits, badLengthOf, namesBelow}
+use Rattle.places.specs.Plane.{verticesOf, cornersAt}
 use Rattle.places.specs.Vertex.{namedBy, givenTo}
 use Rattle.rounding.specs.Exact.{mag, sign, value}
 use Rattle.rounding.specs.Sums.{sumOf}
 use Rattle.rounding.specs.Whole.{isWholeUpTo}
 use Rattle.mitc_tri3.specs.Example.{points, thick, rho}
-use Rattle.mitc_tri3.specs.Masses.{cornersAt, verticesOf}
 use Rattle.mass_bounds.specs.Range.{between, inRange}
 use Rattle.mass_bounds.specs.Shares.{twiceArea, weight, exactShare}
 use Rattle.mass_bounds.specs.Bounds.{NearExact}

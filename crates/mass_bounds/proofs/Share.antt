@@ -17,8 +17,8 @@ use Rattle.rounding.proofs.Margin.{Between, Safe, safe-mul, safe-div}
 use Rattle.rounding.proofs.Whole.{three-dyad, twelve-dyad}
 use Rattle.del_geo_core.specs.Tri2.{areaOf}
 use Rattle.del_geo_core.specs.declared.tri2.Tri2.{Tri2}
-use Rattle.mitc_tri3.specs.Masses.{massOf}
-use Rattle.mitc_tri3.specs.Vertex.{shareOf}
+use Rattle.masses.specs.Masses.{massOf}
+use Rattle.masses.specs.Vertex.{shareOf}
 use Rattle.mass_bounds.specs.Shares.{twiceArea, weight, exactShare, over}
 use Rattle.mass_bounds.specs.Bounds.{roundings}
 use Rattle.mass_bounds.proofs.Premises.{Corners}

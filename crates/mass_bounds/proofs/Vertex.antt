@@ -1,7 +1,7 @@
 -- A vertex's shares, added from +0, are finite and near the exact sum: each share is, with a margin for as many of them as there are names.
 use mathlib.Core.Path.{_≡_}
 use mathlib.Core.Bool.{Bool, true, false}
-use mathlib.Core.List.{List, [], _∷_, _++_}
+use mathlib.Core.List.{List, [], _∷_, _++_, append-assoc, append-nil}
 use Prim.Native.Nat.{ℕ, zero, suc, _+_, _^_, _≤_, _<_}
 use native.Mathlib.Nat.{add-comm, mul-pos, le-trans, one-le-pow}
 use native.Mathlib.Omega.{arith}
@@ -17,10 +17,10 @@ use Rattle.rounding.specs.Sums.{All, sumOf, exactSum}
 use Rattle.rounding.specs.Whole.{unit}
 use Rattle.rounding.proofs.Sums.{all-append, all-map}
 use Rattle.rounding.proofs.Margin.{safe-sum}
+use Rattle.places.specs.Plane.{cornersAt}
 use Rattle.places.specs.Vertex.{when, namedBy, givenTo}
 use Rattle.del_geo_core.specs.declared.tri2.Tri2.{Tri2}
-use Rattle.mitc_tri3.specs.Masses.{cornersAt}
-use Rattle.mitc_tri3.specs.Vertex.{trianglesOf, shareOf}
+use Rattle.masses.specs.Vertex.{trianglesOf, shareOf}
 use Rattle.mass_bounds.specs.Range.{wholeAt, inRange}
 use Rattle.mass_bounds.specs.Shares.{exactShare, over}
 use Rattle.mass_bounds.specs.Bounds.{roundings}
@@ -28,9 +28,9 @@ use Rattle.mass_bounds.proofs.Premises.{Corners, point, in-range}
 use Rattle.mass_bounds.proofs.Share.{Margins, share-safe}
 
 -- ---- the triangles of a vertex: no more than there are names, with whole corners
-count : (l : List ℕ) (n : ℕ) → foldThrees (λ n i0 i1 i2. n + 3) n l ≤ n + length l
+count : (l : List ℕ) (n : ℕ) → foldThrees (λ n i0 i1 i2. n + 1 + 1 + 1) n l ≤ n + length l
 unfolding foldThrees
-count (i0 ∷ i1 ∷ i2 ∷ l) n = le-trans (count l (n + 3)) (omega arith)
+count (i0 ∷ i1 ∷ i2 ∷ l) n = le-trans (count l _) (omega arith)
 count (i0 ∷ i1 ∷ []) n = omega arith
 count (i0 ∷ []) n = omega arith
 count [] n = omega arith
@@ -40,28 +40,24 @@ module _ (f : Format) (B v : ℕ) (vtx2xy : List Float) where
   abbrev Few : ℕ → List Tri2 → Type 0
   Few n l = All (Corners f B) l × (length l ≤ n)
 
-  few-when : (test : Bool) (p : Tri2) → Corners f B p → Few 1 (when test p)
-  few-when true p c = ((c, tt), lit≤ tt)
-  few-when false p c = (tt, lit≤ tt)
+  one-more : {n : ℕ} (test : Bool) (p : Tri2) (l : List Tri2) → Corners f B p → Few n l → Few (n + 1) (l ++ when test p)
+  one-more true p l c (a, h) = (all-append (Corners f B) l _ a (c, tt), rw (length-append l (p ∷ [])) (omega arith))
+  one-more false p l c (a, h) = rw append-nil (a, omega arith)
 
-  few-append : {n m : ℕ} (l k : List Tri2) → Few n l → Few m k → Few (n + m) (l ++ k)
-  few-append l k (a, h) (b, g) = (all-append (Corners f B) l k a b, rw (length-append l k) (omega arith))
-
-  few-named : (i0 i1 i2 : ℕ) → Corners f B (cornersAt vtx2xy i0 i1 i2) → Few 3 (namedBy (λ c. cornersAt vtx2xy) v i0 i1 i2)
+  few-named : {n : ℕ} (l : List Tri2) (i0 i1 i2 : ℕ) → Corners f B (cornersAt vtx2xy i0 i1 i2) → Few n l
+      → Few (n + 1 + 1 + 1) (l ++ namedBy (λ c. cornersAt vtx2xy) v i0 i1 i2)
   unfolding namedBy
-  few-named i0 i1 i2 c =
+  few-named l i0 i1 i2 c few =
       let p = cornersAt vtx2xy i0 i1 i2 in
-      let w : ℕ → List Tri2 = λ i. when (eqb i v) p in
-      let h : (i : ℕ) → Few 1 (w i) = λ i. few-when (eqb i v) p c in
-      few-append (w i0 ++ w i1) (w i2) (few-append (w i0) (w i1) (h i0) (h i1)) (h i2)
+      let first = l ++ when (eqb i0 v) p in
+      rw (← append-assoc, ← append-assoc) (one-more (eqb i2 v) p (first ++ when (eqb i1 v) p) c (one-more (eqb i1 v) p first c (one-more (eqb i0 v) p l c few)))
 
   few-triangles : (tri2vtx : List ℕ) → every (wholeAt f B vtx2xy) tri2vtx ≡ true → Few (length tri2vtx) (trianglesOf v tri2vtx vtx2xy)
   unfolding givenTo cornersAt
   few-triangles tri2vtx e =
       let at = point f B vtx2xy in
-      let (a, h) = threes-keep _ (λ n i0 i1 i2. n + 3) (wholeAt f B vtx2xy) (λ l n. Few n l)
-      (λ l n i0 i1 i2 e0 e1 e2 few. few-append l (namedBy (λ c. cornersAt vtx2xy) v i0 i1 i2) few (few-named i0 i1 i2 (at i0 e0, at i1 e1, at i2 e2)))
-      tri2vtx [] 0 e (tt, lit≤ tt) in
+      let (a, h) = threes-keep _ (λ n i0 i1 i2. n + 1 + 1 + 1) (wholeAt f B vtx2xy) (λ l n. Few n l)
+      (λ l n i0 i1 i2 e0 e1 e2 few. few-named l i0 i1 i2 (at i0 e0, at i1 e1, at i2 e2) few) tri2vtx [] 0 e (tt, lit≤ tt) in
       (a, omega (arith, h, count tri2vtx 0))
 
 -- ---- THE law of a vertex

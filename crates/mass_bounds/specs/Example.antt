@@ -1,22 +1,9 @@
 -- The names of example 3 (01-scope 7), and buffers that are not its masses (01-scope 8.2).
-use mathlib.Core.Bool.{false}
 use mathlib.Core.List.{List, [], _∷_}
 use Prim.Native.Nat.{ℕ}
-use lib.IntN.{pos}
-use lib.Ieee.{Float, fin}
+use lib.Ieee.{Float}
 use lib.ListN.{replicate}
-
-abbrev zero : Float
-zero = fin false 0 (pos 0)
-
-abbrev one : Float
-one = fin false 1 (pos 0)
-
-abbrev seven : Float
-seven = fin false 7 (pos 0)
-
-abbrev twelve : Float
-twelve = fin false 3 (pos 2)
+use Rattle.float.specs.Small.{zero, one, seven, twelve}
 
 abbrev pub names : List ℕ
 names = 0 ∷ 1 ∷ 2 ∷ 1 ∷ 3 ∷ 2 ∷ []

@@ -7,7 +7,7 @@ use lib.Ieee.{Float, Format}
 use Rattle.float.specs.Lists.{every}
 use Rattle.rounding.specs.Exact.{mag, sign}
 use Rattle.rounding.specs.Whole.{unit, isNumber, isWholeUpTo}
-use Rattle.mitc_tri3.specs.Masses.{pointAt}
+use Rattle.places.specs.Plane.{pointAt}
 
 module _ (f : Format) where
   -- from 1 / R to R

@@ -8,8 +8,8 @@ use Rattle.rounding.specs.Exact.{Num, _⊟_, _⊠_, sizeOf, value}
 use Rattle.rounding.specs.Sums.{sumOf, exactSum}
 use Rattle.rounding.specs.Whole.{unit}
 use Rattle.del_geo_core.specs.declared.tri2.Tri2.{Tri2}
-use Rattle.mitc_tri3.specs.Masses.{cornersAt}
-use Rattle.mitc_tri3.specs.Vertex.{trianglesOf}
+use Rattle.places.specs.Plane.{cornersAt}
+use Rattle.masses.specs.Vertex.{trianglesOf}
 
 -- every triangle's corners, in the list's order
 unfoldable pub triangles : (tri2vtx : List ℕ) (vtx2xy : List Float) → List Tri2
