@@ -1,4 +1,5 @@
--- What each return of `mass_lumped_plate_bending` has to show, in every format: the row of its number is the first whose test holds, and the buffer is what that number leaves.
+-- What each return of `mass_lumped_plate_bending` has to show, in every format, from its tests in the code's order: the row of its number is the first whose test holds,
+-- and the buffer is what that number leaves.
 use mathlib.Core.Path.{_≡_, refl, sym, _∙_}
 use mathlib.Core.Bool.{Bool, true, false, not}
 use mathlib.Core.List.{List}
@@ -24,37 +25,31 @@ module _ (f : Format) (tri : List ℕ) (xy : List Float) (thick rho : Float) (be
   unfolding bufferOf
   given r e g = (sym e, rw e g)
 
-  abbrev lengthBad : Bool
-  lengthBad = badLengthOf (verticesOf xy) (length tri) (length before)
-
-  abbrev nameBad : Bool
-  nameBad = not (namesBelow (verticesOf xy) tri)
-
-  abbrev inputBad : Bool
-  inputBad = badInputOf tri xy thick rho
-
-  pub refused-1 : lengthBad ≡ true → Answer badLength before
-  unfolding numberOf firstOf leftOf
-  refused-1 e = given badLength (rw e) refl
-
-  pub refused-2 : lengthBad ≡ false → nameBad ≡ true → Answer badName before
-  unfolding numberOf firstOf leftOf
-  refused-2 e1 e2 = given badName (rw (e1, e2)) refl
-
-  pub refused-3 : lengthBad ≡ false → nameBad ≡ false → inputBad ≡ true → Answer badInput before
-  unfolding numberOf firstOf leftOf
-  refused-3 e1 e2 e3 = given badInput (rw (e1, e2, e3)) refl
-
-  -- the buffer is cleared, and the triangles are added to it
-  module _ (e1 : lengthBad ≡ false) (e2 : nameBad ≡ false) (e3 : inputBad ≡ false) {m1 m2 : List Float} (d1 : m1 ≡ cleared f before) (d2 : m2 ≡ addAll f tri xy thick rho m1) where
-    made : m2 ≡ masses
-    unfolding massesOf
-    made = d2 ∙ rw d1
-
-    pub refused-5 : {m3 : List Float} → not (allFinite m2) ≡ true → length m2 ≡ length before → m3 ≡ cleared f m2 → Answer badAnswer m3
+  module _ {bad1 : Bool} (t1 : bad1 ≡ badLengthOf (verticesOf xy) (length tri) (length before)) where
+    pub refused-1 : bad1 ≡ true → Answer badLength before
     unfolding numberOf firstOf leftOf
-    refused-5 e l d = given badAnswer (rw (e1, e2, e3, ← made, e)) (d ∙ rw l)
+    refused-1 e = given badLength (rw (← t1, e)) refl
 
-    pub done : not (allFinite m2) ≡ false → Answer accepted m2
-    unfolding numberOf firstOf leftOf
-    done e = given accepted (rw (e1, e2, e3, ← made, e)) made
+    module _ (e1 : bad1 ≡ false) {good2 : Bool} (t2 : good2 ≡ namesBelow (verticesOf xy) tri) where
+      pub refused-2 : not good2 ≡ true → Answer badName before
+      unfolding numberOf firstOf leftOf
+      refused-2 e = given badName (rw (← t1, e1, ← t2, e)) refl
+
+      module _ (e2 : not good2 ≡ false) {bad3 : Bool} (t3 : bad3 ≡ badInputOf tri xy thick rho) where
+        pub refused-3 : bad3 ≡ true → Answer badInput before
+        unfolding numberOf firstOf leftOf
+        refused-3 e = given badInput (rw (← t1, e1, ← t2, e2, ← t3, e)) refl
+
+        -- the buffer is cleared, and the triangles are added to it
+        module _ (e3 : bad3 ≡ false) {m1 m2 : List Float} (d1 : m1 ≡ cleared f before) (d2 : m2 ≡ addAll f tri xy thick rho m1) {good5 : Bool} (t5 : good5 ≡ allFinite m2) where
+          made : m2 ≡ masses
+          unfolding massesOf
+          made = d2 ∙ rw d1
+
+          pub refused-5 : {m3 : List Float} → not good5 ≡ true → length m2 ≡ length before → m3 ≡ cleared f m2 → Answer badAnswer m3
+          unfolding numberOf firstOf leftOf
+          refused-5 e l d = given badAnswer (rw (← t1, e1, ← t2, e2, ← t3, e3, ← made, ← t5, e)) (d ∙ rw l)
+
+          pub done : not good5 ≡ false → Answer accepted m2
+          unfolding numberOf firstOf leftOf
+          done e = given accepted (rw (← t1, e1, ← t2, e2, ← t3, e3, ← made, ← t5, e)) made

@@ -19,16 +19,5 @@ w-dw-ddw-plate-bending-spec = tie.close (tie.spec
     (λ c κs. tt)
     (λ c. let c10 = c .before in let c9 = c10 .before in let c8 = c9 .before in let c7 = c8 .before in let c6 = c7 .before in let c5 = c6 .before in
     let c4 = c5 .before in let c3 = c4 .before in let c2 = c3 .before in
-    rw (
-      c .answer-energy .ensures,
-      c10 .kernel .ensures,
-      c9 .bad-energy .ensures,
-      c8 .zero-divisor .ensures,
-      c7 .bad-input .ensures,
-      c6 .ddw .ensures,
-      c5 .dw .ensures,
-      c4 .w .ensures,
-      c3 .state-of .ensures,
-      c2 .corners2 .ensures,
-      c2 .before .corners .ensures,
-    )))
+    rw (c .answer-energy .ensures, c10 .kernel .ensures, c9 .bad-energy .ensures, c8 .zero-divisor .ensures, c7 .bad-input .ensures)
+    (rw (c6 .ddw .ensures, c5 .dw .ensures, c4 .w .ensures, c3 .state-of .ensures, c2 .corners2 .ensures, c2 .before .corners .ensures))))
