@@ -1,6 +1,6 @@
--- What `wdw` of quadratic_bending.rs answers, under the source's names, over the format.
+-- What `wdw` of quadratic_bending.rs answers (01-scope 5.6), under the source's names, over the format.
 use mathlib.Core.Path.{_≡_}
-use mathlib.Core.Bool.{Bool, cond, not, _&&_, _||_}
+use mathlib.Core.Bool.{Bool, false, cond, not, _&&_, _||_}
 use mathlib.Core.List.{List, [], _∷_}
 use Prim.Native.Nat.{ℕ}
 use lib.Dec.{eqb}
@@ -14,7 +14,9 @@ use Rattle.del_geo_core.specs.Vec3 as vec3
 use Rattle.del_geo_core.specs.Vec3.{pointOf, dotOf, subOf}
 use Rattle.del_geo_core.specs.Tri3.{areaOf}
 use Rattle.del_geo_core.specs.Edge.{lengthOf}
+use Rattle.refusal.specs.Answers.{zeroDivisorOf}
 use Rattle.refusal.specs.Refusal.{accepted, kernelNumber}
+use Rattle.refusal.specs.declared.Tests.{Tests}
 use Rattle.quadratic_bending.specs.declared.Fold.{Fold}
 use Rattle.quadratic_bending.specs.declared.Divisors.{Divisors}
 use Rattle.quadratic_bending.specs.declared.Bending.{Bending}
@@ -25,24 +27,12 @@ cornersOf p = record { p0 = pointOf (p !! 0); p1 = pointOf (p !! 1); p2 = pointO
 unfoldable pub isFiniteOf : Fold → Bool
 isFiniteOf p = vec3.isFiniteOf (p .p0) && vec3.isFiniteOf (p .p1) && vec3.isFiniteOf (p .p2) && vec3.isFiniteOf (p .p3)
 
--- what is refused (01-scope 2.1): 3, a number of the corners is not finite
-abbrev pub badInputOf : (ini def : Fold) → Bool
-badInputOf ini def = not (isFiniteOf ini && isFiniteOf def)
-
--- 4, one of the divisors of 01-scope 5.6 is zero
-unfoldable pub zeroDivisorOf : Divisors → Bool
-zeroDivisorOf d = isZero (d .len) || isZero (d .h0) || isZero (d .h1) || isZero (d .«root_len»)
-
--- 5, a number of the answer is not finite
-abbrev pub badAnswerOf : (w dwdp : List Float) → Bool
-badAnswerOf w dwdp = not (allFinite w && allFinite dwdp)
-
 module _ (f : Format) where
   open Ops (ops f) using (_⊕_, _⊖_, _⊗_, _⊘_, zero, two, three)
 
   infixl 75 _⊕_ _⊖_
   infixl 80 _⊗_ _⊘_
-  -- len, h0, h1, and root(area0 + area1) * len
+  -- every number that divides: len, h0, h1, and root(area0 + area1) * len
   unfoldable pub divisorsOf : Fold → Divisors
   divisorsOf p =
       let area0 = areaOf f (p .p0) (p .p2) (p .p3) in
@@ -75,19 +65,35 @@ module _ (f : Format) where
   unfoldable pub dwdpOf : (k : List Float) → List Float
   dwdpOf k = each 3 (λ iDim. each 4 (λ node. table 3 (λ dim. cond (eqb dim iDim) (k ! node) zero)))
 
+  -- what the source answers: w and dwdp
+  unfoldable pub wdwOf : (ini def : Fold) → List Float × List Float
+  wdwOf ini def = let k = kOf ini (divisorsOf ini) in (wOf k def, dwdpOf k)
+
+  -- what is refused (01-scope 2.1)
+  unfoldable pub testsOf : (ini def : Fold) → Tests
+  testsOf ini def =
+      let d = divisorsOf ini in
+      let (w, dwdp) = wdwOf ini def in
+      record {
+        -- 3: a number of the corners is not finite
+        «bad_input» = not (isFiniteOf ini && isFiniteOf def);
+        «bad_stiffness» = false;
+        turned = false;
+        -- 4: one of the divisors of 5.6 is zero
+        «zero_divisor» = isZero (d .len) || zeroDivisorOf (d .h0) (d .h1) (d .«root_len»);
+        -- 5: a number of the answer is not finite
+        «bad_answer» = not (allFinite w && allFinite dwdp);
+      }
+
+  -- the values where nothing is refused, else +0 throughout
   unfoldable pub bendingOf : (number : ℕ) (w dwdp : List Float) → Bending
   bendingOf number w dwdp =
       let keep = eqb number accepted in
       record { number = number; w = cond keep w (replicate 3 zero); dwdp = cond keep dwdp (replicate 36 zero) }
 
-  unfoldable pub wdwOf : (ini def : Fold) → Bending
-  wdwOf ini def =
-      let d = divisorsOf ini in
-      let k = kOf ini d in
-      let w = wOf k def in
-      let dwdp = dwdpOf k in
-      bendingOf (kernelNumber (badInputOf ini def) (zeroDivisorOf d) (badAnswerOf w dwdp)) w dwdp
+  unfoldable pub answerOf : (ini def : Fold) → Bending
+  answerOf ini def = let (w, dwdp) = wdwOf ini def in bendingOf (kernelNumber (testsOf ini def)) w dwdp
 
   -- THE statement of `wdw`
   abbrev pub IsBending : (pIni pDef : List (List Float)) (r : Bending) → Type 0
-  IsBending pIni pDef r = r ≡ wdwOf (cornersOf pIni) (cornersOf pDef)
+  IsBending pIni pDef r = r ≡ answerOf (cornersOf pIni) (cornersOf pDef)

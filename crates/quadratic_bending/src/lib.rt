@@ -3,11 +3,12 @@ ghost use mathlib.Core.Path.{_≡_};
 ghost use lib.Ieee.{binary64};
 ghost use Rattle.float.specs.Ops.{ops};
 ghost use Rattle.root.specs.Root.{rootOf};
-ghost use Rattle.quadratic_bending.specs.Bending.{cornersOf, isFiniteOf, divisorsOf, zeroDivisorOf, kOf, wOf, dwdpOf, bendingOf, IsBending};
+ghost use Rattle.quadratic_bending.specs.Bending.{cornersOf, isFiniteOf, divisorsOf, kOf, wOf, dwdpOf, bendingOf, IsBending};
 use del_geo_core::edge;
 use del_geo_core::tri3;
 use del_geo_core::vec3;
 use del_geo_core::vec3::V3;
+use refusal::Tests;
 
 // The shared edge runs from corner 2 to corner 3; corners 0 and 1 stand across it.
 struct Fold {
@@ -62,12 +63,6 @@ fn divisors_of(p: Fold) -> Divisors
     }
 }
 
-fn zero_divisor(d: Divisors) -> bool
-    ensures { λ r. ⌜ r ≡ zeroDivisorOf d ⌝ }
-{
-    float::is_zero(d.len) | float::is_zero(d.h0) | float::is_zero(d.h1) | float::is_zero(d.root_len)
-}
-
 // The root of 3, without computing it at every call.
 fn root3() -> f64
     ensures { λ r. ⌜ r ≡ rootOf binary64 (ops binary64 .three) ⌝ }
@@ -76,7 +71,7 @@ fn root3() -> f64
 }
 
 // The factor of each corner. What is called cot.. is the cotangent times len; the division by root_len mends that.
-fn k_of(p: Fold, d: Divisors) -> [f64; 4]
+fn k(p: Fold, d: Divisors) -> [f64; 4]
     ensures { λ r. ⌜ r ≡ kOf binary64 p d ⌝ }
 {
     let e23 = vec3::sub(p.p3, p.p2);
@@ -97,7 +92,7 @@ fn k_of(p: Fold, d: Divisors) -> [f64; 4]
     ]
 }
 
-fn w_of(k: [f64; 4], p: Fold) -> [f64; 3]
+fn w(k: [f64; 4], p: Fold) -> [f64; 3]
     ensures { λ r. ⌜ r ≡ wOf binary64 k p ⌝ }
 {
     [
@@ -107,7 +102,7 @@ fn w_of(k: [f64; 4], p: Fold) -> [f64; 3]
     ]
 }
 
-fn dwdp_of(k: [f64; 4]) -> [f64; 36]
+fn dwdp(k: [f64; 4]) -> [f64; 36]
     ensures { λ r. ⌜ r ≡ dwdpOf binary64 k ⌝ }
 {
     let mut dwdp = [0.0; 36];
@@ -140,13 +135,15 @@ pub fn wdw(p_ini: [[f64; 3]; 4], p_def: [[f64; 3]; 4]) -> Bending
     let ini = corners(p_ini);
     let def = corners(p_def);
     let d = divisors_of(ini);
-    let k = k_of(ini, d);
-    let w = w_of(k, def);
-    let dwdp = dwdp_of(k);
-    let number = refusal::kernel(
-        !(is_finite(ini) & is_finite(def)),
-        zero_divisor(d),
-        !(float::all_finite(&w) & float::all_finite(&dwdp)),
-    );
-    answer(number, w, dwdp)
+    let k = k(ini, d);
+    let w = w(k, def);
+    let dwdp = dwdp(k);
+    let tests = Tests {
+        bad_input: !(is_finite(ini) & is_finite(def)),
+        bad_stiffness: false,
+        turned: false,
+        zero_divisor: float::is_zero(d.len) | refusal::zero_divisor(d.h0, d.h1, d.root_len),
+        bad_answer: !(float::all_finite(&w) & float::all_finite(&dwdp)),
+    };
+    answer(refusal::kernel(tests), w, dwdp)
 }

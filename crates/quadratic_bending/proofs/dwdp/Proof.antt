@@ -1,4 +1,4 @@
--- `dwdp_of` meets its contract: the turns store each corner's factor at its place, and what no turn reaches stays +0.
+-- `dwdp` meets its contract: the turns store each corner's factor at its place, and what no turn reaches stays +0.
 use mathlib.Core.Path.{_≡_, refl}
 use Prim.Native.Nat.{ℕ, _+_, _*_, _-_, _≤_}
 use native.Mathlib.Omega.{arith}
@@ -8,15 +8,15 @@ use Rattle.float.specs.Ops.{ops}
 use Rattle.float.specs.Lists.{_!_, table, each}
 use Rattle.float.proofs.Fill.{run, run-more, rows, rows-more}
 use Rattle.quadratic_bending.specs.Bending.{dwdpOf}
-use Rattle.quadratic_bending.proofs.dwdp_of.Statement.{statement}
-use Rattle.quadratic_bending.proofs.dwdp_of.Tie as tie
+use Rattle.quadratic_bending.proofs.dwdp.Statement.{statement}
+use Rattle.quadratic_bending.proofs.dwdp.Tie as tie
 
 abbrev place : ℕ → ℕ → ℕ
 place iDim node = (iDim * 4 + node) * 3 + iDim
 
-pub dwdp-of-spec : {M : Type 1} → statement M
+pub dwdp-spec : {M : Type 1} → statement M
 unfolding dwdpOf table each run rows
-dwdp-of-spec = tie.close (tie.spec
+dwdp-spec = tie.close (tie.spec
     (λ k dwdp₀ iDim node₀ dwdp node. (node ≤ 4) × (dwdp ≡ run (place iDim) (λ n. k ! n) dwdp₀ node))
     (λ k dwdp₀ iDim node₀ dwdp node. 4 - node)
     (λ k dwdp₀ iDim₀ dwdp iDim. (iDim ≤ 3) × (dwdp ≡ rows place (λ i n. k ! n) 4 (replicate 36 (ops binary64 .zero)) iDim))
