@@ -12,7 +12,7 @@ use Rattle.del_geo_core.specs.Tri2 as tri2
 use Rattle.del_geo_core.specs.Tri3 as tri3
 use Rattle.quadratic_bending.specs.Bending as bending
 use Rattle.quadratic_bending.specs.declared.Bending.{Bending}
-use Rattle.stvk_tri3.specs.GreenLagrange.{wdwGreenLagrangeOf}
+use Rattle.stvk_tri3.specs.GreenLagrange.{greenLagrangeOf}
 use Rattle.stvk_tri3.specs.Strain as strain
 use Rattle.stvk_tri3.specs.Stvk.{wdwddwOf}
 use Rattle.stvk_tri3.specs.declared.Strain.{Strain}
@@ -38,11 +38,11 @@ module _ (f : Format) where
 
   -- THE statement of `stvk_tri3_wdw` (01-scope 5.4)
   abbrev pub IsStrainExport : (pIni pDef : List (List Float)) (r : ℕ) (values : List Float) → Type 0
-  IsStrainExport pIni pDef = GivesStrain (strain.wdwOf f (tri2.cornersOf pIni) (tri3.cornersOf pDef))
+  IsStrainExport pIni pDef = GivesStrain (strain.portedOf f (tri2.cornersOf pIni) (tri3.cornersOf pDef))
 
   -- THE statement of `stvk_tri3_wdw_green_lagrange` (01-scope 5.10)
   abbrev pub IsGreenLagrangeExport : (pIni pDef : List (List Float)) (r : ℕ) (values : List Float) → Type 0
-  IsGreenLagrangeExport pIni pDef = GivesStrain (wdwGreenLagrangeOf f (tri2.cornersOf pIni) (tri3.cornersOf pDef))
+  IsGreenLagrangeExport pIni pDef = GivesStrain (greenLagrangeOf f (tri2.cornersOf pIni) (tri3.cornersOf pDef))
 
   -- THE statement of `stvk_tri3_wdwddw_` (01-scope 5.5)
   abbrev pub IsStvkExport : (p0 p1 : List (List Float)) (lambda myu : Float) (r : ℕ) (values : List Float) → Type 0

@@ -16,7 +16,7 @@ use Rattle.mitc_tri3.specs.Example.{points, thick, rho}
 use Rattle.mitc_tri3.specs.Masses.{numberOf, bufferOf}
 use Rattle.mitc_tri3.specs.Plate.{wDwDdwPlateBendingOf}
 use Rattle.stvk_tri3.specs.Example.{atRest, pulled}
-use Rattle.stvk_tri3.specs.GreenLagrange.{wdwGreenLagrangeOf}
+use Rattle.stvk_tri3.specs.GreenLagrange.{greenLagrangeOf}
 use Rattle.stvk_tri3.specs.Strain as strain
 use Rattle.stvk_tri3.specs.Stvk.{wdwddwOf}
 use Rattle.stvk_tri3.specs.declared.Strain.{Strain}
@@ -77,14 +77,14 @@ unfoldable pub stvk : Energy
 stvk = wdwddwOf binary64 p0 p1 (double +0) (double +1)
 
 abbrev strains : Strain
-strains = strain.wdwOf binary64 p p1
+strains = strain.portedOf binary64 p p1
 
 -- 14 and 15: both strains of one sheet
 abbrev ported : Strain
-ported = strain.wdwOf binary64 (tri2.cornersOf atRest) (tri3.cornersOf pulled)
+ported = strain.portedOf binary64 (tri2.cornersOf atRest) (tri3.cornersOf pulled)
 
 abbrev book : Strain
-book = wdwGreenLagrangeOf binary64 (tri2.cornersOf atRest) (tri3.cornersOf pulled)
+book = greenLagrangeOf binary64 (tri2.cornersOf atRest) (tri3.cornersOf pulled)
 
 abbrev bends : Bending
 bends =

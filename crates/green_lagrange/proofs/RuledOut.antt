@@ -16,8 +16,8 @@ use Rattle.del_geo_core.specs.Vec3 as vec3
 use Rattle.edges.specs.Edges as edges
 use Rattle.strain.specs.Strain as strain
 use Rattle.stvk_tri3.specs.Example.{atRest, pulled}
-use Rattle.stvk_tri3.specs.GreenLagrange.{wdwGreenLagrangeOf}
-use Rattle.stvk_tri3.specs.Strain.{testedOf, testsOf, strainOf, answerOf, wdwOf}
+use Rattle.stvk_tri3.specs.GreenLagrange.{greenLagrangeOf}
+use Rattle.stvk_tri3.specs.Strain.{testedOf, testsOf, strainOf, answerOf, portedOf}
 use Rattle.green_lagrange.specs.Book.{IsBookStrain}
 use Rattle.green_lagrange.specs.Sheet.{isRest, isWhole}
 use Rattle.green_lagrange.proofs.Theorem.{green-lagrange}
@@ -30,10 +30,10 @@ whole : isWhole binary64 1024 (tri3.cornersOf pulled) ≡ true
 unfolding isWholeUpTo fits mag sign
 whole = refl
 
-pub met : IsBookStrain binary64 2 1 (tri3.cornersOf pulled) (wdwGreenLagrangeOf binary64 (tri2.cornersOf atRest) (tri3.cornersOf pulled))
+pub met : IsBookStrain binary64 2 1 (tri3.cornersOf pulled) (greenLagrangeOf binary64 (tri2.cornersOf atRest) (tri3.cornersOf pulled))
 met = green-lagrange 1 0 (lit≤ tt) (lit≤ tt) atRest pulled refl at-rest whole
 
-pub not-ported : IsBookStrain binary64 2 1 (tri3.cornersOf pulled) (wdwOf binary64 (tri2.cornersOf atRest) (tri3.cornersOf pulled)) → ⊥
+pub not-ported : IsBookStrain binary64 2 1 (tri3.cornersOf pulled) (portedOf binary64 (tri2.cornersOf atRest) (tri3.cornersOf pulled)) → ⊥
 unfolding value mag sign sub mul div ofBits every rootOf firstOf kernelNumber zeroDivisorOf vec3.isFiniteOf vec3.normOf vec3.overOf vec3.unitOf tri2.isFiniteOf tri3.isFiniteOf edges.planeOf edges.spaceOf
     edges.glstrainOf strain.restOf strain.gugu0Of strain.wOf strain.hogeOf strain.dwKOf strain.dwOf strain.valuesOf testedOf testsOf strainOf answerOf
 not-ported h = false≢true (eq-eqb _ _ (h .xx .same .is))

@@ -1,37 +1,40 @@
--- What `w_dw_ddw_plate_bending` answers, in the scope's words: one answer fits, each number is given exactly where its test is the first that holds, and the values after each.
-use mathlib.Core.Path.{_≡_, refl}
+-- What `w_dw_ddw_plate_bending` answers, in the scope's words: one answer fits, and what every kernel that answers an energy says.
+use mathlib.Core.Path.{_≡_}
 use mathlib.Core.List.{List}
 use lib.Ieee.{Float, Format}
 use lib.ListN.{replicate}
-use borrow.Author.Tests.{ne-eqb}
 use Rattle.float.specs.Ops.{Ops, ops}
 use Rattle.float.proofs.Unique.{only}
 use Rattle.refusal.specs.Refusal.{accepted, kernelRows, Exactly}
-use Rattle.refusal.specs.Answers.{energyOf}
 use Rattle.refusal.specs.declared.Energy.{Energy}
-use Rattle.refusal.proofs.KernelNumber.{kernel-exactly}
+use Rattle.refusal.specs.declared.Tests.{Tests}
+use Rattle.refusal.proofs.EnergyAnswer as energy
 use Rattle.del_geo_core.specs.Tri2 as tri2
 use Rattle.del_geo_core.specs.Tri3 as tri3
 use Rattle.mitc_tri3.specs.Plate.{wDwDdwPlateBendingOf, testsOf, plateOf, IsPlate}
 
--- no second answer fits
-pub unique : (f : Format) (p u : List (List Float)) (thk lambda myu : Float) {r q : Energy} → IsPlate f p u thk lambda myu r
-    → IsPlate f p u thk lambda myu q → r ≡ q
-unique f p u thk lambda myu = only
-
-module _ (f : Format) (p u : List (List Float)) (thk lambda myu : Float) {r : Energy} (is : IsPlate f p u thk lambda myu r) where
+module _ (f : Format) (p u : List (List Float)) (thk lambda myu : Float) where
   open Ops (ops f) using (zero)
 
-  pub numbers-exactly : Exactly (r .number) (kernelRows (testsOf f (tri2.cornersOf p) (tri3.cornersOf u) thk lambda myu))
-  unfolding plateOf energyOf
-  numbers-exactly = rw is (kernel-exactly _)
+  -- no second answer fits
+  pub unique : {r q : Energy} → IsPlate f p u thk lambda myu r → IsPlate f p u thk lambda myu q → r ≡ q
+  unique = only
 
-  -- after a refusal every value is +0
-  pub refused-values : (r .number ≡ accepted → ⊥) → (r .w ≡ zero) × (r .dw ≡ replicate 9 zero) × (r .ddw ≡ replicate 81 zero)
-  unfolding plateOf energyOf
-  refused-values = rw is (λ h. (rw (ne-eqb _ accepted h), rw (ne-eqb _ accepted h), rw (ne-eqb _ accepted h)))
+  abbrev tests : Tests
+  tests = testsOf f (tri2.cornersOf p) (tri3.cornersOf u) thk lambda myu
 
-  -- and where nothing is refused they are what the source returns
-  pub accepted-values : r .number ≡ accepted → let (w, dw, ddw) = wDwDdwPlateBendingOf f (tri2.cornersOf p) (tri3.cornersOf u) thk lambda myu in (r .w ≡ w) × (r .dw ≡ dw) × (r .ddw ≡ ddw)
-  unfolding plateOf energyOf
-  accepted-values = rw is (λ h. (rw h, rw h, rw h))
+  module _ {r : Energy} (is : IsPlate f p u thk lambda myu r) where
+    pub numbers-exactly : Exactly (r .number) (kernelRows tests)
+    unfolding plateOf
+    numbers-exactly = energy.numbers-exactly f tests _ _ _ is
+
+    -- after a refusal every value is +0
+    pub refused-values : (r .number ≡ accepted → ⊥) → (r .w ≡ zero) × (r .dw ≡ replicate 9 zero) × (r .ddw ≡ replicate 81 zero)
+    unfolding plateOf
+    refused-values = energy.refused-values f tests _ _ _ is
+
+    -- and where nothing is refused they are what the source returns
+    pub accepted-values : r .number ≡ accepted → let (w, dw, ddw) = wDwDdwPlateBendingOf f (tri2.cornersOf p) (tri3.cornersOf u) thk lambda myu in
+        (r .w ≡ w) × (r .dw ≡ dw) × (r .ddw ≡ ddw)
+    unfolding plateOf
+    accepted-values = energy.accepted-values f tests _ _ _ is
