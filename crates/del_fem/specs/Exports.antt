@@ -14,9 +14,9 @@ use Rattle.quadratic_bending.specs.Bending as bending
 use Rattle.quadratic_bending.specs.declared.Bending.{Bending}
 use Rattle.stvk_tri3.specs.GreenLagrange.{greenLagrangeOf}
 use Rattle.stvk_tri3.specs.Strain as strain
-use Rattle.stvk_tri3.specs.Stvk.{wdwddwOf}
+use Rattle.stvk_tri3.specs.Stvk.{stvkOf}
 use Rattle.stvk_tri3.specs.declared.Strain.{Strain}
-use Rattle.mitc_tri3.specs.Plate.{wDwDdwPlateBendingOf}
+use Rattle.mitc_tri3.specs.Plate.{plateOf}
 use Rattle.skin.specs.Skin.{IsSkin}
 use Rattle.mesh.specs.Mesh.{meshOf, numberOf, valuesOf}
 use Rattle.mesh.specs.declared.Mesh.{Mesh}
@@ -34,7 +34,7 @@ GivesEnergy a r values = (r ≡ a .number) × (values ≡ a .w ∷ a .dw ++ a .d
 module _ (f : Format) where
   -- THE statement of `quadratic_bending_wdw` (01-scope 5.6)
   abbrev pub IsBendingExport : (pIni pDef : List (List Float)) (r : ℕ) (values : List Float) → Type 0
-  IsBendingExport pIni pDef = GivesBending (bending.wdwOf f (bending.cornersOf pIni) (bending.cornersOf pDef))
+  IsBendingExport pIni pDef = GivesBending (bending.answerOf f (bending.cornersOf pIni) (bending.cornersOf pDef))
 
   -- THE statement of `stvk_tri3_wdw` (01-scope 5.4)
   abbrev pub IsStrainExport : (pIni pDef : List (List Float)) (r : ℕ) (values : List Float) → Type 0
@@ -46,11 +46,11 @@ module _ (f : Format) where
 
   -- THE statement of `stvk_tri3_wdwddw_` (01-scope 5.5)
   abbrev pub IsStvkExport : (p0 p1 : List (List Float)) (lambda myu : Float) (r : ℕ) (values : List Float) → Type 0
-  IsStvkExport p0 p1 lambda myu = GivesEnergy (wdwddwOf f (tri3.cornersOf p0) (tri3.cornersOf p1) lambda myu)
+  IsStvkExport p0 p1 lambda myu = GivesEnergy (stvkOf f (tri3.cornersOf p0) (tri3.cornersOf p1) lambda myu)
 
   -- THE statement of `mitc_tri3_w_dw_ddw_plate_bending` (01-scope 5.2)
   abbrev pub IsPlateExport : (p u : List (List Float)) (thk lambda myu : Float) (r : ℕ) (values : List Float) → Type 0
-  IsPlateExport p u thk lambda myu = GivesEnergy (wDwDdwPlateBendingOf f (tri2.cornersOf p) (tri3.cornersOf u) thk lambda myu)
+  IsPlateExport p u thk lambda myu = GivesEnergy (plateOf f (tri2.cornersOf p) (tri3.cornersOf u) thk lambda myu)
 
   -- THE statement of `skin_wdw` (01-scope 5.8, 2.5): the number, the place and the energy are those of skin's own answer
   abbrev pub IsSkinExport : (vtx2ini vtx2def : List Float) (tri2vtx : List ℕ) (lambda myu : Float) (before : List Float) (r place : ℕ) (w : Float) (after : List Float) → Type 0

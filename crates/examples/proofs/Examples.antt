@@ -5,10 +5,12 @@ use lib.Ieee.{binary64, sub, mul, div, ofBits, toBits}
 use Rattle.float.specs.Lists.{every, table as tabled, each, fold, foldThrees}
 use Rattle.root.specs.Root.{rootOf, rootWordOf}
 use Rattle.refusal.specs.Refusal.{accepted, zeroDivisor, firstOf, kernelNumber}
-use Rattle.refusal.specs.Answers.{badEnergyOf, energyOf}
+use Rattle.refusal.specs.Answers.{zeroDivisorOf, badEnergyOf, energyOf}
+use Rattle.refusal.specs.Left.{leftOf}
 use Rattle.refusal.specs.Panel.{withinLimits, badLengthOf}
 use Rattle.refusal.specs.declared.Energy.{Energy}
 use Rattle.places.specs.Places.{addVertex, addTriangle}
+use Rattle.places.specs.Plane.{cornersAt, namedFinite}
 use Rattle.del_geo_core.specs.Vec3 as vec3
 use Rattle.del_geo_core.specs.Tri2 as tri2
 use Rattle.del_geo_core.specs.Tri3 as tri3
@@ -19,11 +21,13 @@ use Rattle.plate.specs.Bending as bend
 use Rattle.plate.specs.Shear as shear
 use Rattle.plate.specs.Plate as plates
 use Rattle.mitc_tri3.specs.Plate as mitc
-use Rattle.mitc_tri3.specs.Masses.{cornersAt, namedFinite, badInputOf, massOf, addMasses, addAll, massesOf, numberOf, bufferOf}
-use Rattle.stvk_tri3.specs.Edges as edges
-use Rattle.stvk_tri3.specs.GreenLagrange as book
-use Rattle.stvk_tri3.specs.Strain as strain
-use Rattle.stvk_tri3.specs.Stvk as energy
+use Rattle.mitc_tri3.specs.Masses.{badInputOf, numberOf, bufferOf}
+use Rattle.masses.specs.Masses.{massOf, addMasses, addAll, massesOf}
+use Rattle.edges.specs.Edges as edges
+use Rattle.strain.specs.Strain as strain
+use Rattle.stvk.specs.Stvk as energy
+use Rattle.stvk_tri3.specs.Strain as strains
+use Rattle.stvk_tri3.specs.Stvk as stvks
 use Rattle.quadratic_bending.specs.Bending as bending
 use Rattle.examples.specs.Words.{double, +0, +1, +2}
 use Rattle.examples.specs.Table.{Hold, p, u, plate, p0, p1, stvk, tableOf, table}
@@ -33,19 +37,19 @@ plate-accepted : plate +2 .number ≡ accepted
 unfolding plate sub mul div ofBits every tabled each fold rootOf firstOf kernelNumber badEnergyOf energyOf vec3.isFiniteOf vec3.overOf tri2.isFiniteOf tri3.isFiniteOf coords.contravariantOf
     coords.inverseOf mat3.multVecOf bend.coeffaOf bend.coeffbOf bend.deDtOf bend.bendingOf bend.t0s bend.strainOf bend.dstrainOf bend.wOf bend.dwOf bend.ddwOf shear.coeffaOf
     shear.coeffbOf shear.shearOf shear.rs shear.ss shear.strainOf shear.stressOf shear.deRt01Of shear.deSt20Of shear.dcoeffERtOf shear.dstrainOf shear.wOf shear.dwOf shear.ddwOf
-    plates.gdOf plates.guGuOf plates.guOf plates.stateOf plates.accumulatedOf plates.wOf plates.dwOf plates.ddwOf mitc.badInputOf mitc.zeroDivisorOf mitc.wDwDdwPlateBendingOf
+    plates.gdOf plates.guGuOf plates.guOf plates.stateOf plates.accumulatedOf plates.wOf plates.dwOf plates.ddwOf edges.planeOf zeroDivisorOf mitc.badInputOf mitc.wDwDdwPlateBendingOf mitc.testsOf mitc.plateOf
 plate-accepted = refl
 
 plate-refused : plate +0 .number ≡ zeroDivisor
 unfolding plate sub mul div ofBits firstOf kernelNumber energyOf vec3.isFiniteOf vec3.overOf tri2.isFiniteOf tri3.isFiniteOf coords.contravariantOf coords.inverseOf plates.gdOf plates.guOf
-    plates.stateOf mitc.badInputOf mitc.zeroDivisorOf mitc.wDwDdwPlateBendingOf
+    plates.stateOf edges.planeOf zeroDivisorOf mitc.badInputOf mitc.wDwDdwPlateBendingOf mitc.testsOf mitc.plateOf
 plate-refused = refl
 
 stvk-accepted : stvk .number ≡ accepted
 unfolding stvk sub mul div ofBits every tabled each rootOf firstOf kernelNumber badEnergyOf energyOf vec3.isFiniteOf vec3.normOf vec3.overOf vec3.unitOf tri3.isFiniteOf tri3.normalOf
-    tri3.unitNormalAreaOf coords.contravariantOf mat3.multVecOf edges.edgesOf edges.glstrainOf energy.alongOf energy.badInputOf energy.zeroDivisorOf energy.restOf energy.glstrainOf
+    tri3.unitNormalAreaOf coords.contravariantOf mat3.multVecOf edges.spaceOf edges.glstrainOf zeroDivisorOf energy.alongOf energy.restOf energy.glstrainOf
     energy.gugu0Of energy.elasticityTensorOf energy.stateOf energy.wOf energy.dNdrOf energy.dwAtOf energy.dwOf energy.dtmp0Of energy.dtmp1Of energy.rowOf energy.blockOf energy.ddwOf
-    energy.wdwddwOf
+    energy.wdwddwOf stvks.badInputOf stvks.testsOf stvks.stvkOf
 stvk-accepted = refl
 
 abbrev plateAs : (thk n : ℕ) → Energy
@@ -54,7 +58,7 @@ plateAs thk n =
     energyOf binary64 n (plates.wOf binary64 s) (plates.dwOf binary64 s) (plates.ddwOf binary64 s)
 
 plate-as : (thk : ℕ) {n : ℕ} → plate thk .number ≡ n → plate thk ≡ plateAs thk n
-unfolding plate mitc.wDwDdwPlateBendingOf energyOf
+unfolding plate mitc.plateOf mitc.wDwDdwPlateBendingOf energyOf
 plate-as thk is = ap (plateAs thk) is
 
 abbrev stvkAs : (n : ℕ) → Energy
@@ -63,7 +67,7 @@ stvkAs n =
     energyOf binary64 n (energy.wOf binary64 s) (energy.dwOf binary64 s) (energy.ddwOf binary64 s)
 
 stvk-as : {n : ℕ} → stvk .number ≡ n → stvk ≡ stvkAs n
-unfolding stvk energy.wdwddwOf energyOf
+unfolding stvk stvks.stvkOf energy.wdwddwOf energyOf
 stvk-as is = ap stvkAs is
 
 numbers-given : Hold (tableOf (plateAs +2 accepted) (plateAs +0 zeroDivisor) (stvkAs accepted))
@@ -71,10 +75,9 @@ unfolding tableOf sub mul div ofBits toBits every tabled each fold foldThrees ro
     tri2.isFiniteOf tri3.isFiniteOf tri3.normalOf tri3.areaOf tri3.unitNormalAreaOf edge.lengthOf coords.contravariantOf coords.inverseOf mat3.multVecOf bend.coeffaOf bend.coeffbOf
     bend.deDtOf bend.bendingOf bend.t0s bend.strainOf bend.wOf shear.coeffaOf shear.coeffbOf shear.shearOf shear.rs shear.ss shear.strainOf shear.stressOf shear.wOf plates.gdOf
     plates.guGuOf plates.guOf plates.stateOf plates.accumulatedOf plates.wOf addVertex addTriangle cornersAt badLengthOf namedFinite badInputOf massOf addMasses addAll massesOf
-    numberOf bufferOf edges.edgesOf edges.glstrainOf strain.badInputOf strain.zeroDivisorOf strain.badAnswerOf strain.gd0Of strain.restOf strain.gugu0XxOf strain.gugu0YyOf
-    strain.gugu0XyOf strain.wOf strain.hogeOf strain.dwKOf strain.dwOf strain.valuesOf strain.strainOf strain.wdwOf book.restOf book.wdwGreenLagrangeOf energy.alongOf
-    energy.restOf energy.glstrainOf energy.gugu0Of energy.elasticityTensorOf energy.stateOf energy.wOf energy.dNdrOf energy.dwAtOf energy.dwOf bending.isFiniteOf bending.zeroDivisorOf
-    bending.divisorsOf bending.kOf bending.wOf bending.dwdpOf bending.bendingOf bending.wdwOf
+    numberOf bufferOf leftOf zeroDivisorOf edges.planeOf edges.spaceOf edges.glstrainOf strain.restOf strain.gugu0Of strain.wOf strain.hogeOf strain.dwKOf strain.dwOf strain.valuesOf strain.restOfGreenLagrange strains.testedOf strains.testsOf strains.strainOf strains.answerOf energy.alongOf
+    energy.restOf energy.glstrainOf energy.gugu0Of energy.elasticityTensorOf energy.stateOf energy.wOf energy.dNdrOf energy.dwAtOf energy.dwOf bending.isFiniteOf
+    bending.divisorsOf bending.kOf bending.wOf bending.dwdpOf bending.wdwOf bending.testsOf bending.bendingOf bending.answerOf
 numbers-given = refl
 
 -- THE theorem of the marked examples

@@ -14,11 +14,11 @@ use Rattle.del_geo_core.specs.declared.tri2.Tri2.{Tri2}
 use Rattle.del_geo_core.specs.declared.tri3.Tri3.{Tri3}
 use Rattle.mitc_tri3.specs.Example.{points, thick, rho}
 use Rattle.mitc_tri3.specs.Masses.{numberOf, bufferOf}
-use Rattle.mitc_tri3.specs.Plate.{wDwDdwPlateBendingOf}
+use Rattle.mitc_tri3.specs.Plate.{plateOf}
 use Rattle.stvk_tri3.specs.Example.{atRest, pulled}
 use Rattle.stvk_tri3.specs.GreenLagrange.{greenLagrangeOf}
 use Rattle.stvk_tri3.specs.Strain as strain
-use Rattle.stvk_tri3.specs.Stvk.{wdwddwOf}
+use Rattle.stvk_tri3.specs.Stvk.{stvkOf}
 use Rattle.stvk_tri3.specs.declared.Strain.{Strain}
 use Rattle.quadratic_bending.specs.Bending as bending
 use Rattle.quadratic_bending.specs.declared.Bending.{Bending}
@@ -64,7 +64,7 @@ abbrev pub u : Tri3
 u = tri3.cornersOf (doubles (+0 ∷ +0 ∷ +0 ∷ []) ∷ doubles (+1 ∷ +0 ∷ +0 ∷ []) ∷ doubles (+0 ∷ +0 ∷ +0 ∷ []) ∷ [])
 
 unfoldable pub plate : (thk : ℕ) → Energy
-plate thk = wDwDdwPlateBendingOf binary64 p u (double thk) (double +0) (double +1)
+plate thk = plateOf binary64 p u (double thk) (double +0) (double +1)
 
 -- the sheet of 9 at rest in space, and pulled to twice its length in x, as in 10
 abbrev pub p0 : Tri3
@@ -74,7 +74,7 @@ abbrev pub p1 : Tri3
 p1 = tri3.cornersOf (doubles (+0 ∷ +0 ∷ +0 ∷ []) ∷ doubles (+2 ∷ +0 ∷ +0 ∷ []) ∷ doubles (+0 ∷ +1 ∷ +0 ∷ []) ∷ [])
 
 unfoldable pub stvk : Energy
-stvk = wdwddwOf binary64 p0 p1 (double +0) (double +1)
+stvk = stvkOf binary64 p0 p1 (double +0) (double +1)
 
 abbrev strains : Strain
 strains = strain.portedOf binary64 p p1
@@ -91,7 +91,7 @@ bends =
     let origin = doubles (+0 ∷ +0 ∷ +0 ∷ []) in
     let ini = doubles (+0 ∷ +2 ∷ +0 ∷ []) ∷ doubles (+0 ∷ -2 ∷ +0 ∷ []) ∷ origin ∷ doubles (+2 ∷ +0 ∷ +0 ∷ []) ∷ [] in
     let def = doubles (+0 ∷ +0 ∷ +1 ∷ []) ∷ origin ∷ origin ∷ origin ∷ [] in
-    bending.wdwOf binary64 (bending.cornersOf ini) (bending.cornersOf def)
+    bending.answerOf binary64 (bending.cornersOf ini) (bending.cornersOf def)
 
 -- the table, over the answers of 8 at thickness 2 and 0 and that of 9
 unfoldable pub tableOf : (plate2 plate0 stvk : Energy) → List Row
