@@ -9,8 +9,8 @@ use lib.Ieee.{Float, Format, prec, low, hid, ones, ofBits}
 use lib.Ieee.Exact.{HasValue}
 use lib.Ieee.Fits.{two, reach}
 use Rattle.float.proofs.Value.{rescale}
-use Rattle.float.proofs.Patterns.{lift, lower, normal-value, subnormal-value}
-use Rattle.root.specs.Steps.{Unpacked, Evened}
+use Rattle.float.proofs.Patterns.{lift, normal-value, subnormal-value}
+use Rattle.root.specs.Steps.{Unpacked}
 
 pub unpack-subnormal : (f : Format) (g b m u : ℕ) → b < hid f → hid f ≤ m → m < 2 * hid f → u ≤ g → m * 2 ^ u ≡ b * 2 ^ g → Unpacked f g b m u
 unpack-subnormal f g b m u h from below most e = record {
@@ -37,16 +37,16 @@ unpack-normal f g b G e h =
       value = rw (k, add-comm (hid f) t, ap (λ (z : ℕ). z * hid f + t) s ∙ div-add-mod' b (hid f)) at v;
     }
 
-pub pack-value : (f : Format) (c d n j : ℕ) → low f ≡ c + d → hid f ≤ n → n < 2 * hid f → suc (j + d) < ones f
-    → HasValue (ofBits f ((j + d) * hid f + n)) false (n * 2 ^ j) (2 ^ c)
-pack-value f c d n j l a b x =
+pub pack-value : (f : Format) (n j : ℕ) → hid f ≤ n → n < 2 * hid f → suc j < ones f → HasValue (ofBits f (j * hid f + n)) false (n * 2 ^ j) (2 ^ low f)
+pack-value f n j a b x =
     let t = n - hid f in
     let e : hid f + t ≡ n = omega arith in
-    let w : suc (j + d) * hid f + t ≡ (j + d) * hid f + n = omega arith in
-    lower (ofBits f ((j + d) * hid f + n)) false n j c d (rw (w, e, l) at (normal-value f (j + d) t x (omega arith)))
+    let w : suc j * hid f + t ≡ j * hid f + n = omega arith in
+    rw (w, e) at (normal-value f j t x (omega arith))
 
 -- m * 2 ^ u / 2 ^ l as a whole number times a square, d binary digits more on both sides
-pub squared : (x : Float) (m u a l d : ℕ) → Evened m u a → HasValue x false (m * 2 ^ u) (2 ^ l) → HasValue x false (a * 2 ^ d * 2 ^ (2 * (u / 2))) (2 ^ (l + d))
-squared x m u a l d E v =
-    rescale x false (m * 2 ^ u) (2 ^ l) (a * 2 ^ d * 2 ^ (2 * (u / 2))) (2 ^ (l + d)) (pow-pos l)
-    (omega (arith, ap (λ (z : ℕ). z * (2 ^ d * 2 ^ l)) (E .same), ap (λ (z : ℕ). m * 2 ^ u * z) (pow-add 2 l d))) v
+pub squared : (x : Float) (m u l d : ℕ) → HasValue x false (m * 2 ^ u) (2 ^ l) → HasValue x false (m * 2 ^ (u % 2) * 2 ^ d * 2 ^ (2 * (u / 2))) (2 ^ (l + d))
+squared x m u l d v =
+    let e : u % 2 + 2 * (u / 2) ≡ u = omega arith in
+    let p : 2 ^ u ≡ 2 ^ (u % 2) * 2 ^ (2 * (u / 2)) = rw e at (pow-add 2 (u % 2) (2 * (u / 2))) in
+    rescale x false (m * 2 ^ u) (2 ^ l) _ (2 ^ (l + d)) (pow-pos l) (omega (arith, ap (λ (z : ℕ). m * z * 2 ^ d * 2 ^ l) p, ap (λ (z : ℕ). m * 2 ^ u * z) (pow-add 2 l d))) v

@@ -1,5 +1,3 @@
-pub mod Core
-pub mod Starts
 pub mod Rule
 pub mod Unique
 pub mod RootOf

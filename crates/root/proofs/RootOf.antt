@@ -1,11 +1,11 @@
 -- `rootOf` meets the rule, and so is the only answer: its M has the digits that the rule asks for, and `nearestRoot` is nearest to M's root.
 use mathlib.Core.Path.{_≡_, refl, sym, ap, _∙_}
-use mathlib.Core.Bool.{Bool, true, false, not, cond}
+use mathlib.Core.Bool.{true, false}
 use Prim.Native.Nat.{ℕ, zero, suc, _+_, _-_, _*_, _/_, _^_, _≤_, _<_}
 use native.Mathlib.Nat.{lt-irrefl, le-trans, le-of-lt, lt-of-lt-of-le, lt-of-not-le, mul-le-mul-right, mul-lt-mul-of-pos-right}
 use native.Mathlib.Nat.{lt-of-mul-lt-mul-right, le-of-mul-le-mul-right, div-eq-of-eq-mul-left, pow-succ'}
 use native.Mathlib.Omega.{arith}
-use lib.Dec.{T, ltb, leb, ltb→lt, nltb→le, leb→le, nleb→lt, lit≤}
+use lib.Dec.{T, lit≤}
 use lib.IntN.{ℤ}
 use lib.Pow.{pow-add, pow-pos, pow-mono, shl-lt}
 use lib.Ieee.{Float, nan, inf, fin, Format, binary32, binary64, prec, emax, low, up, down, size, odd, hid, fits, ofBits, toBits}
@@ -16,35 +16,11 @@ use lib.Ieee.Fits.{two, down-pos, odd-fits}
 use Rattle.float.specs.Numbers.{nanWord}
 use Rattle.float.proofs.Bits.{nan-bits}
 use Rattle.float.proofs.Value.{Written, written, place}
-use Rattle.root.specs.Root.{Close, Nearest, IsRoot, SquareRoot, SquareRootWord, isqrt, nearestRoot, rootOf, rootWordOf}
-use Rattle.root.proofs.Core.{stays, goes-up, root-pos}
+use Rattle.whole_root.specs.Whole.{nearestRoot}
+use Rattle.whole_root.proofs.Whole.{nearestRoot-is}
+use Rattle.root.specs.Root.{Nearest, IsRoot, SquareRoot, SquareRootWord, rootOf, rootWordOf}
 use Rattle.root.proofs.Rule.{powers, Rounded, in-range, found}
 use Rattle.root.proofs.Unique.{unique}
-
--- ---- the whole root, and the nearest
-isqrt-is : (i n : ℕ) → n < 4 ^ i → (isqrt i n * isqrt i n ≤ n) × (n < (isqrt i n + 1) * (isqrt i n + 1))
-unfolding isqrt
-isqrt-is zero n h = (omega arith, omega arith)
-isqrt-is (suc i) n h =
-    let w = isqrt-is i (n / 4) (omega (arith, h, pow-succ' 4 i)) in
-    let s = isqrt i (n / 4) * 2 in
-    go (isqrt i (n / 4)) (w .0) (w .1) (leb ((s + 1) * (s + 1)) n) (leb→le ((s + 1) * (s + 1)) n) (nleb→lt ((s + 1) * (s + 1)) n)
-  where
-    go : (t : ℕ) → t * t ≤ n / 4 → n / 4 < (t + 1) * (t + 1) → (b : Bool) → (T b → (t * 2 + 1) * (t * 2 + 1) ≤ n) → (T (not b) → n < (t * 2 + 1) * (t * 2 + 1))
-        → (cond b (t * 2 + 1) (t * 2) * cond b (t * 2 + 1) (t * 2) ≤ n) × (n < (cond b (t * 2 + 1) (t * 2) + 1) * (cond b (t * 2 + 1) (t * 2) + 1))
-    go t l u true y x = (y tt, omega arith)
-    go t l u false y x = (omega arith, x tt)
-
-nearestRoot-is : (i n : ℕ) → 0 < n → n < 4 ^ i → Close n (nearestRoot i n)
-unfolding nearestRoot
-nearestRoot-is i n p h =
-    let s = isqrt i n in
-    let w = isqrt-is i n h in
-    go s (n - s * s) (omega (arith, w .0)) (omega (arith, w .1)) (ltb s (n - s * s)) (ltb→lt s (n - s * s)) (nltb→le s (n - s * s))
-  where
-    go : (s r : ℕ) → s * s + r ≡ n → r ≤ 2 * s → (b : Bool) → (T b → s < r) → (T (not b) → r ≤ s) → Close n (cond b (s + 1) s)
-    go s r e l true y x = rw (sym e) (goes-up s r (y tt) (omega arith))
-    go s r e l false y x = rw (sym e) (stays s r (root-pos 0 s r n p e (omega arith)) (x tt))
 
 -- ---- the digits of M
 pub size-gt : (n j : ℕ) → 2 ^ j ≤ n → j < size n

@@ -15,8 +15,9 @@ use lib.Ieee.Positive.{above, positive, positive-of-value}
 use Rattle.float.proofs.Value.{rescale}
 use Rattle.float.specs.Numbers.{isZero}
 use Rattle.float.proofs.Patterns.{finite-below}
-use Rattle.root.specs.Root.{Close, Nearest, IsRoot}
-use Rattle.root.proofs.Core.{not-below, not-above}
+use Rattle.whole_root.specs.Whole.{Close}
+use Rattle.whole_root.proofs.Whole.{not-below, not-above}
+use Rattle.root.specs.Root.{Nearest, IsRoot}
 
 -- the powers of two that the rule names, by the weight of the leading digit
 pub powers : (f : Format) → (2 ^ prec f ≡ 2 * hid f) × (2 ^ (2 * (prec f - 1)) ≡ hid f * hid f) × (2 ^ (2 * prec f) ≡ 4 * (hid f * hid f))

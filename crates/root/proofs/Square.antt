@@ -12,8 +12,8 @@ use lib.Ieee.Digits.{size-lt, size-le, size-reaches}
 use lib.Ieee.Exact.{HasValue}
 use lib.Ieee.Fits.{down-pos}
 use Rattle.float.proofs.Value.{rescale, fractions-agree, written, place, no-zero}
+use Rattle.whole_root.proofs.Whole.{stays}
 use Rattle.root.specs.Root.{Nearest, rootOf}
-use Rattle.root.proofs.Core.{stays}
 use Rattle.root.proofs.Rule.{powers, double, Rounded, found, by-nearest}
 use Rattle.root.proofs.RootOf.{size-gt, is-rootOf}
 

@@ -9,18 +9,9 @@ use lib.Pow.{pow-add, pow-pos, pow-mono}
 use lib.Ieee.{Float, nan, inf, fin, Format, prec, up, down, hid}
 use lib.Ieee.Fits.{up-pos, down-pos}
 use Rattle.float.proofs.Value.{rescale, fractions-agree, one-float}
-use Rattle.root.specs.Root.{Close, Nearest, IsRoot, SquareRoot, SquareRootWord}
+use Rattle.whole_root.proofs.Unique.{one-nearest}
+use Rattle.root.specs.Root.{Nearest, IsRoot, SquareRoot, SquareRootWord}
 use Rattle.root.proofs.Rule.{powers}
-
--- ---- one whole number is nearest
-no-two : (n R S : ℕ) → Close n R → Close n S → R < S → ⊥
-no-two n R S c d h = let l : 2 * R + 1 ≤ 2 * S - 1 = omega arith in omega (arith, c .upper, d .lower, mul-le-mul l l)
-
-one-nearest : (n R S : ℕ) → Close n R → Close n S → R ≡ S
-one-nearest n R S c d =
-    let p : R < S → ⊥ = no-two n R S c d in
-    let q : S < R → ⊥ = no-two n S R d c in
-    omega arith
 
 -- ---- one scale: M and N lie from H up to below 4 H, and M * A ^ 2 is N * B ^ 2 for powers A and B of two
 too-far : (H M N a b : ℕ) → M < 4 * H → H ≤ N → M * (2 ^ a * 2 ^ a) ≡ N * (2 ^ b * 2 ^ b) → a < b → ⊥

@@ -1,3 +1,2 @@
 pub mod Root
 pub mod Steps
-pub mod Starts

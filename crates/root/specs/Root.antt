@@ -1,18 +1,15 @@
 -- The square root of 01-scope 4, over the format: its rule in whole numbers, and the same root computed.
 use mathlib.Core.Path.{_≡_}
-use mathlib.Core.Bool.{true, false, cond}
-use Prim.Native.Nat.{ℕ, zero, suc, _+_, _-_, _*_, _/_, _^_, _≤_, _<_}
-use lib.Dec.{T, leb, ltb}
+use mathlib.Core.Bool.{true, false}
+use Prim.Native.Nat.{ℕ, zero, suc, _-_, _*_, _/_, _^_, _≤_, _<_}
+use lib.Dec.{T}
 use lib.IntN.{ℤ}
 use lib.Ieee.{Float, nan, inf, fin, Format, prec, low, up, down, size, odd, fits, ofBits, toBits}
 use lib.Ieee.Exact.{HasValue}
+pub use Rattle.whole_root.specs.Whole.{Close}
+unfoldable pub use Rattle.whole_root.specs.Whole.{isqrt, nearestRoot}
 
 -- ---- the rule
-
--- R is the whole number nearest to the root of n, and no tie: (2R - 1)^2 < 4n < (2R + 1)^2
-pub record Close (n R : ℕ) : Type 0 where
-  pub lower : (2 * R - 1) * (2 * R - 1) < 4 * n
-  pub upper : 4 * n < (2 * R + 1) * (2 * R + 1)
 
 -- 4.1, a finite x above 0: r is R * 2 ^ k and x is M * 2 ^ (2 k), R with all the digits of the format, M with twice as many or one less.
 -- r is a number of the format, so that the rule has one answer
@@ -39,16 +36,6 @@ IsRoot f (fin true (suc m) e) r = r ≡ nan
 IsRoot f (fin false (suc m) e) r = Nearest f (fin false (suc m) e) r
 
 -- ---- the same root, computed
-
--- the whole root of an n below 4 ^ i, one binary digit after the other
-unfoldable pub isqrt : ℕ → ℕ → ℕ
-isqrt zero n = 0
-isqrt (suc i) n = let s = isqrt i (n / 4) * 2 in cond (leb ((s + 1) * (s + 1)) n) (s + 1) s
-
--- the whole number nearest to the root of such an n: one up where more is left over than the whole root
-unfoldable pub nearestRoot : ℕ → ℕ → ℕ
-unfolding isqrt
-nearestRoot i n = let s = isqrt i n in cond (ltb s (n - s * s)) (s + 1) s
 
 -- by the same cases. A finite x above 0 is n / 2 ^ (2 low); M is n / 2 ^ (2 j), with 2 prec - 1 or 2 prec digits; the root is R * 2 ^ j / 2 ^ low
 unfoldable pub rootOf : Format → Float → Float

@@ -1,172 +1,53 @@
 // IEEE 754's squareRoot of a binary64, nearest, by whole numbers on its bits (01-scope 4). A finite x above 0 is a * 2^52 times the
 // square of a power of two, with 2^52 <= a < 2^54, and its root has the digits of R, the whole number nearest to the root of a * 2^52.
-// Computed, by multiplications: from the list's entry at a / 2^44, the top ten of a's 54 digits, a y near 2^58 / root(4 a); with y a
-// p near root(4 a), not above it, and q = (4 a - p^2) * y / 2^34. So s = p * 2^25 + q should be the root rounded down, or one less.
-// Checked, by exact whole numbers: d = 4 a - p^2, e = d * 2^24 - p * q and r = e * 2^26 - q^2, each taken modulo 2^64. Each is the true
-// difference where it is so small that what was taken away can be added back without reaching 2^64, and each is tested for that.
-// That is enough: r is then a * 2^52 - s^2, and the rule, (2 R - 1)^2 < 4 a * 2^52 < (2 R + 1)^2, holds for R = s where r is at most s,
-// and for R = s + 1 where r is from s + 1 to 3 s + 2. How near the candidate s is, no proof asks.
-// Where a test fails, the digits of the whole root are found one by one, after the first five, which are the same entry of the list,
-// and what is left over decides in the same way. Of the candidate nothing is used then.
+// Here x is taken apart, and the answer put together from its digits, which `whole_root` finds.
 ghost use mathlib.Core.Bool.{false};
-ghost use Prim.Native.Nat.{_+_, _*_, _^_, _≤_, _<_};
+ghost use Prim.Native.Nat.{_*_, _^_, _≤_, _<_};
 ghost use lib.Ieee.{binary64, ofBits};
 ghost use lib.Ieee.Exact.{HasValue};
-ghost use Rattle.root.specs.Root.{SquareRoot, SquareRootWord, Nearest, Close};
-ghost use Rattle.root.specs.Steps.{Unpacked, Evened, Digits};
+ghost use Rattle.whole_root.specs.Whole.{significand};
+ghost use Rattle.root.specs.Root.{SquareRoot, SquareRootWord, Nearest};
+ghost use Rattle.root.specs.Steps.{Unpacked};
 
-mod list;
-
-// A whole number and a power of two: m * 2^u.
+// A number's parts: the digits that m leads with, the first taken for 1, times 2^u / 2^(1074 + 1022). The 1022 makes u / 2 the root's power.
 struct Parts {
     m: u64,
     u: u64,
 }
 
-// A whole root s, and what is left over, r.
-struct Rooted {
-    s: u64,
-    r: u64,
-}
-
-// A whole number in two parts: p * 2^25 + q.
-struct Halves {
-    p: u64,
-    q: u64,
-}
-
-// The subnormal pattern b, its digits moved up to a full 53: what it stands for is m * 2^u / 2^(1074 + 52).
+// The parts of the subnormal pattern b: its digits, moved up.
 fn moved_up(b: u64) -> Parts
     requires { ⌜ (0 < b) × (b < 2 ^ 52) ⌝ }
-    ensures { λ p. ⌜ Unpacked binary64 52 b (p .m) (p .u) ⌝ }
+    ensures { λ p. ⌜ Unpacked binary64 1022 b (significand (p .m)) (p .u) ⌝ }
 {
-    let z = u64::leading_zeros(b) - 11;
+    let z = u64::leading_zeros(b);
     Parts {
         m: b << z,
-        u: 52 - z as u64,
+        u: 1033 - z as u64,
     }
 }
 
-// What the pattern b of a finite number above 0 stands for: m * 2^u / 2^(1074 + 52), m of 53 digits.
+// The parts of the pattern b of a finite number above 0.
 fn unpack(b: u64) -> Parts
     requires { ⌜ (0 < b) × (b < 0x7ff0_0000_0000_0000) ⌝ }
-    ensures { λ p. ⌜ Unpacked binary64 52 b (p .m) (p .u) ⌝ }
+    ensures { λ p. ⌜ Unpacked binary64 1022 b (significand (p .m)) (p .u) ⌝ }
 {
     let e = b / 0x10_0000_0000_0000;
     if e == 0 {
         return moved_up(b);
     }
     Parts {
-        m: b % 0x10_0000_0000_0000 + 0x10_0000_0000_0000,
-        u: e + 51,
+        m: b << 11,
+        u: e + 1021,
     }
 }
 
-// m, or twice m where u is odd: what is left of the power of two is a square.
-fn evened(m: u64, u: u64) -> u64
-    requires { ⌜ m < 2 ^ 53 ⌝ }
-    ensures { λ a. ⌜ Evened m u a ⌝ }
-{
-    if u % 2 == 0 { m } else { m * 2 }
-}
-
-// The 53 binary digits of the whole root of a * 2^52, and what is left over. The list has the first five;
-// a turn takes two digits of the number, from the top of b, and finds one of the root.
-fn digits(a: u64) -> Rooted
-    requires { ⌜ (2 ^ 52 ≤ a) × (a < 2 ^ 54) ⌝ }
-    ensures { λ d. ⌜ Digits (a * 2 ^ 52) (d .s) (d .r) ⌝ }
-{
-    let n = a / 0x1000_0000_0000;
-    let mut s = list::start(n);
-    let mut r = n - s * s;
-    let mut b = a % 0x1000_0000_0000 * 0x10_0000;
-    let mut i: u64 = 5;
-    while i < 53 {
-        let w = r * 4 + b / 0x4000_0000_0000_0000;
-        let t = s * 4 + 1;
-        b = b % 0x4000_0000_0000_0000 * 4;
-        if w < t {
-            r = w;
-            s = s * 2;
-        } else {
-            r = w - t;
-            s = s * 2 + 1;
-        }
-        i = i + 1;
-    }
-    Rooted { s, r }
-}
-
-// The whole number nearest to the root of s^2 + r, which the bound on r keeps below s + 3/2: one up where more is left over than s.
-fn nearest(d: Rooted) -> u64
-    requires { ⌜ (0 < d .s) × (d .s < 2 ^ 56) × (d .r < 3 * d .s + 3) ⌝ }
-    ensures { λ n. ⌜ Close (d .s * d .s + d .r) n ⌝ }
-{
-    if d.s < d.r { d.s + 1 } else { d.s }
-}
-
-// Newton's step towards 2^31 / root(h / 2^29), from a y near it. What u's divisions drop raises w by less than 3; with the 4 the answer is
-// not above that number, so that p^2 is not above 4 a. Near it the two % change nothing: they bound the products, for the proof.
-fn closer(y: u64, h: u64) -> u64
-    requires { ⌜ (y < 2 ^ 32) × (h < 2 ^ 31) ⌝ }
-    ensures { λ r. ⌜ r < 2 ^ 32 ⌝ }
-{
-    let u = y * y / 0x8000_0000 * h / 0x4000_0000;
-    let w = std::num::wrapping_sub_u64(0xc000_0000 - 4, u) % 0x1_0000_0000;
-    y * w / 0x8000_0000 % 0x1_0000_0000
-}
-
-// Near 2^31 / root(h / 2^29), s being the first five digits of that root. A parabola comes within one part in 30, the steps within one in
-// 600, one in 240,000, and some units of y's last place.
-fn inverse(h: u64, s: u64) -> u64
-    requires { ⌜ (h < 2 ^ 31) × (16 ≤ s) × (s < 32) ⌝ }
-    ensures { λ r. ⌜ r < 2 ^ 32 ⌝ }
-{
-    let c = 34 - s;
-    closer(closer(closer(1_081_400_000 + 3_072_300 * c * c, h), h), h)
-}
-
-// p * 2^25 + q should be the root of a * 2^52 rounded down, or one less. h is the first 31 of a's 54 digits; the % bounds d, for the proof.
-fn candidate(a: u64) -> Halves
-    requires { ⌜ (2 ^ 52 ≤ a) × (a < 2 ^ 54) ⌝ }
-    ensures { λ c. ⌜ (c .p < 2 ^ 30) × (c .q < 2 ^ 30) ⌝ }
-{
-    let h = a / 0x80_0000;
-    let y = inverse(h, list::start(a / 0x1000_0000_0000));
-    let p = h * y / 0x2_0000_0000;
-    let d = std::num::wrapping_sub_u64(4 * a, p * p) % 0x1_0000_0000;
-    Halves {
-        p,
-        q: d * y / 0x4_0000_0000,
-    }
-}
-
-// The whole number nearest to the root of a * 2^52: by s = p * 2^25 + q where the check shows what that leaves over, else by the digits.
-fn checked(a: u64, p: u64, q: u64) -> u64
-    requires { ⌜ (2 ^ 52 ≤ a) × (a < 2 ^ 54) × (p < 2 ^ 30) × (q < 2 ^ 30) ⌝ }
-    ensures { λ n. ⌜ Close (a * 2 ^ 52) n ⌝ }
-{
-    let s = p * 0x200_0000 + q;
-    let d = std::num::wrapping_sub_u64(4 * a, p * p);
-    if d < 0x4000_0000 {
-        let e = std::num::wrapping_sub_u64(d * 0x100_0000, p * q);
-        if e < 0x4000_0000 {
-            let r = std::num::wrapping_sub_u64(e * 0x400_0000, q * q);
-            if r < 3 * s + 3 {
-                return nearest(Rooted { s, r });
-            }
-        }
-    }
-    let rooted = digits(a);
-    nearest(rooted)
-}
-
-// The number n * 2^j / 2^589, n of 53 digits.
+// The number n * 2^j / 2^1074, n of 53 digits.
 fn pack(n: u64, j: u64) -> f64
-    requires { ⌜ (2 ^ 52 ≤ n) × (n < 2 ^ 53) × (j ≤ 1048) ⌝ }
-    ensures { λ r. ⌜ HasValue r false (n * 2 ^ j) (2 ^ 589) ⌝ }
+    requires { ⌜ (2 ^ 52 ≤ n) × (n < 2 ^ 53) × (j ≤ 1533) ⌝ }
+    ensures { λ r. ⌜ HasValue r false (n * 2 ^ j) (2 ^ 1074) ⌝ }
 {
-    f64::from_bits((j + 485) * 0x10_0000_0000_0000 + n)
+    f64::from_bits(j * 0x10_0000_0000_0000 + n)
 }
 
 // The root of the finite number above 0 that has the pattern b.
@@ -175,9 +56,7 @@ fn positive(b: u64) -> f64
     ensures { λ r. ⌜ Nearest binary64 (ofBits binary64 b) r ⌝ }
 {
     let p = unpack(b);
-    let a = evened(p.m, p.u);
-    let c = candidate(a);
-    pack(checked(a, c.p, c.q), p.u / 2)
+    pack(whole_root::nearest_root(p.m, p.u), p.u / 2)
 }
 
 // The root of x: a finite number above 0 by its bits, both zeros and +infinity themselves, any other number and any NaN the NaN.

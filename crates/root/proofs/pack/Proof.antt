@@ -1,5 +1,4 @@
 -- `root::pack` meets its contract: the exponent's field and the digits are those of a normal number.
-use mathlib.Core.Path.{refl}
 use native.Mathlib.Omega.{arith}
 use borrow.Author.Needs.{needs}
 use lib.Ieee.{binary64}
@@ -12,6 +11,5 @@ pub pack-spec : {M : Type 1} → statement M
 pack-spec = tie.close (tie.spec
     (λ c. search needs)
     (λ c. search needs)
-    (λ c. search needs)
     (λ c. below-no-nan binary64 _ (omega arith))
-    (λ c. pack-value binary64 589 485 _ _ refl (c .pre .0) (c .pre .1) (omega arith)))
+    (λ c. pack-value binary64 _ _ (c .pre .0) (c .pre .1) (omega arith)))

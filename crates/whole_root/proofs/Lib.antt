@@ -1,0 +1,4 @@
+pub mod Turn
+pub mod Starts
+pub mod Whole
+pub mod Unique
