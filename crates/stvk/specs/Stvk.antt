@@ -114,9 +114,9 @@ module _ (f : Format) where
       ⊕ gi .y ⊗ ni .x ⊗ e .z .z ⊗ gj .x ⊗ nj .y
       ⊕ gi .y ⊗ ni .x ⊗ e .z .z ⊗ gj .y ⊗ nj .x
 
-  unfoldable pub dtmp1Of : (area0 : Float) (spkstress : V3) (ni nj : V2) → Float
-  dtmp1Of area0 spkstress ni nj =
-      area0 ⊗ (spkstress .x ⊗ ni .x ⊗ nj .x ⊕ spkstress .z ⊗ ni .x ⊗ nj .y ⊕ spkstress .z ⊗ ni .y ⊗ nj .x ⊕ spkstress .y ⊗ ni .y ⊗ nj .y)
+  -- the source writes the expression of dw[ino][idim] once more, for dNdr[ino] and dNdr[jno]
+  abbrev pub dtmp1Of : (area0 : Float) (spkstress : V3) (ni nj : V2) → Float
+  dtmp1Of area0 spkstress ni nj = dwAtOf area0 spkstress ni nj
 
   -- dtmp0 * area0 for jdim = 0, 1, 2
   unfoldable pub rowOf : State → (gi ni nj : V2) → V3

@@ -5,7 +5,7 @@ ghost use lib.Ieee.{binary64};
 ghost use Rattle.float.specs.Lists.{each};
 ghost use Rattle.del_geo_core.specs.declared.mat3_row_major.Matrix3.{Matrix3};
 ghost use Rattle.del_geo_core.specs.declared.tri2.V2.{V2};
-ghost use Rattle.stvk.specs.Stvk.{restOf, glstrainOf, gugu0Of, elasticityTensorOf, stateOf, wOf, dNdrOf, alongOf, dwAtOf, dwOf, dtmp0Of, dtmp1Of, blockOf, ddwAtOf, ddwOf};
+ghost use Rattle.stvk.specs.Stvk.{restOf, elasticityTensorOf, stateOf, wOf, dNdrOf, alongOf, dwAtOf, dwOf, dtmp0Of, blockOf, ddwAtOf, ddwOf};
 ghost use Rattle.stvk.specs.Parts.{termsOf, rowsOf};
 use del_geo_core::curve_linear_coords;
 use del_geo_core::mat3_row_major;
@@ -73,28 +73,6 @@ fn rest_of(p0: Tri3) -> Rest
     }
 }
 
-// The strain along the edges, its third component times one.
-fn glstrain(gd0: Gd, gd: Gd) -> V3
-    ensures { λ r. ⌜ r ≡ glstrainOf binary64 gd0 gd ⌝ }
-{
-    let e = edges::glstrain(gd0, gd);
-    V3 {
-        x: e.x,
-        y: e.y,
-        z: 1.0 * e.z,
-    }
-}
-
-fn gugu0(gu0: Gu) -> V3
-    ensures { λ r. ⌜ r ≡ gugu0Of binary64 gu0 ⌝ }
-{
-    V3 {
-        x: vec3::dot(gu0.x.v, gu0.x.v),
-        y: vec3::dot(gu0.y.v, gu0.y.v),
-        z: vec3::dot(gu0.y.v, gu0.x.v),
-    }
-}
-
 fn elasticity_tensor(gugu0: V3, lambda: f64, myu: f64) -> Matrix3
     ensures { λ r. ⌜ r ≡ elasticityTensorOf binary64 gugu0 lambda myu ⌝ }
 {
@@ -121,8 +99,19 @@ pub fn state_of(p0: Tri3, p1: Tri3, lambda: f64, myu: f64) -> State
 {
     let rest = rest_of(p0);
     let gd = edges::space(p1);
-    let glstrain = glstrain(rest.gd0, gd);
-    let tensor = elasticity_tensor(gugu0(rest.gu0), lambda, myu);
+    let e = edges::glstrain(rest.gd0, gd);
+    let glstrain = V3 {
+        x: e.x,
+        y: e.y,
+        z: 1.0 * e.z,
+    };
+    let gu0 = rest.gu0;
+    let gugu0 = V3 {
+        x: vec3::dot(gu0.x.v, gu0.x.v),
+        y: vec3::dot(gu0.y.v, gu0.y.v),
+        z: vec3::dot(gu0.y.v, gu0.x.v),
+    };
+    let tensor = elasticity_tensor(gugu0, lambda, myu);
     let spkstress = mat3_row_major::mult_vec(tensor, glstrain);
     State {
         rest,
@@ -196,23 +185,27 @@ pub fn dw(s: State) -> [f64; 9]
 fn terms_of(e: Matrix3, gi: V2, ni: V2, gj: V2) -> Terms
     ensures { λ r. ⌜ r ≡ termsOf binary64 e gi ni gj ⌝ }
 {
+    let xx = gi.x * ni.x;
+    let yy = gi.y * ni.y;
+    let xy = gi.x * ni.y;
+    let yx = gi.y * ni.x;
     Terms {
-        t0: gi.x * ni.x * e.x.x * gj.x,
-        t1: gi.x * ni.x * e.x.y * gj.y,
-        t2: gi.x * ni.x * e.x.z * gj.x,
-        t3: gi.x * ni.x * e.x.z * gj.y,
-        t4: gi.y * ni.y * e.y.x * gj.x,
-        t5: gi.y * ni.y * e.y.y * gj.y,
-        t6: gi.y * ni.y * e.y.z * gj.x,
-        t7: gi.y * ni.y * e.y.z * gj.y,
-        t8: gi.x * ni.y * e.z.x * gj.x,
-        t9: gi.x * ni.y * e.z.y * gj.y,
-        t10: gi.x * ni.y * e.z.z * gj.x,
-        t11: gi.x * ni.y * e.z.z * gj.y,
-        t12: gi.y * ni.x * e.z.x * gj.x,
-        t13: gi.y * ni.x * e.z.y * gj.y,
-        t14: gi.y * ni.x * e.z.z * gj.x,
-        t15: gi.y * ni.x * e.z.z * gj.y,
+        t0: xx * e.x.x * gj.x,
+        t1: xx * e.x.y * gj.y,
+        t2: xx * e.x.z * gj.x,
+        t3: xx * e.x.z * gj.y,
+        t4: yy * e.y.x * gj.x,
+        t5: yy * e.y.y * gj.y,
+        t6: yy * e.y.z * gj.x,
+        t7: yy * e.y.z * gj.y,
+        t8: xy * e.z.x * gj.x,
+        t9: xy * e.z.y * gj.y,
+        t10: xy * e.z.z * gj.x,
+        t11: xy * e.z.z * gj.y,
+        t12: yx * e.z.x * gj.x,
+        t13: yx * e.z.y * gj.y,
+        t14: yx * e.z.z * gj.x,
+        t15: yx * e.z.z * gj.y,
     }
 }
 
@@ -238,16 +231,6 @@ fn dtmp0(t: Terms, nj: V2) -> f64
     dtmp0 += t.t14 * nj.y;
     dtmp0 += t.t15 * nj.x;
     dtmp0
-}
-
-fn dtmp1(area0: f64, spkstress: V3, ni: V2, nj: V2) -> f64
-    ensures { λ r. ⌜ r ≡ dtmp1Of binary64 area0 spkstress ni nj ⌝ }
-{
-    area0
-        * (spkstress.x * ni.x * nj.x
-            + spkstress.z * ni.x * nj.y
-            + spkstress.z * ni.y * nj.x
-            + spkstress.y * ni.y * nj.y)
 }
 
 // dtmp0 * area0 for jdim = 0, 1, 2, a row for each jno. The sixteen products serve three jno, and each dtmp0 is small enough that the compiler puts it here with dNdr[jno] known,
@@ -325,9 +308,9 @@ fn ddw_of_corner(s: State, ni: V2) -> [f64; 27]
     let y = rows(s, along(s.gd, 1), ni);
     let z = rows(s, along(s.gd, 2), ni);
     let dtmp1 = V3 {
-        x: dtmp1(s.rest.area0, s.spkstress, ni, dndr(0)),
-        y: dtmp1(s.rest.area0, s.spkstress, ni, dndr(1)),
-        z: dtmp1(s.rest.area0, s.spkstress, ni, dndr(2)),
+        x: dw_at(s.rest.area0, s.spkstress, ni, dndr(0)),
+        y: dw_at(s.rest.area0, s.spkstress, ni, dndr(1)),
+        z: dw_at(s.rest.area0, s.spkstress, ni, dndr(2)),
     };
     three_blocks(x, y, z, dtmp1)
 }

@@ -24,11 +24,11 @@ ddw-of-corner-spec = tie.close (tie.spec
     let c7 = c8 .before in let c6 = c7 .before in let c5 = c6 .before in let c4 = c5 .before in let c3 = c4 .before in let c2 = c3 .before in
     rw (
       c .three-blocks .ensures,
-      c12 .dtmp13 .ensures,
+      c12 .dw-at3 .ensures,
       c11 .dndr3 .ensures,
-      c10 .dtmp12 .ensures,
+      c10 .dw-at2 .ensures,
       c9 .dndr2 .ensures,
-      c8 .dtmp1 .ensures,
+      c8 .dw-at .ensures,
       c7 .dndr .ensures,
       c6 .rows3 .ensures,
       c5 .along3 .ensures,
