@@ -45,14 +45,14 @@ pub fn w_dw_ddw_plate_bending(
     let w = plate::w(s);
     let dw = plate::dw(s);
     let ddw = plate::ddw(s);
-    let number = refusal::kernel(Tests {
+    let tests = Tests {
         bad_input: bad_input(p, u, thk, lambda, myu),
         bad_stiffness: false,
         turned: false,
         zero_divisor: refusal::zero_divisor(s.gu.x.by, s.gu.y.by, s.gu.z.by),
         bad_answer: refusal::bad_energy(w, dw, ddw),
-    });
-    refusal::answer_energy(number, w, dw, ddw)
+    };
+    refusal::answer_energy(refusal::kernel(tests), w, dw, ddw)
 }
 
 // The lumped masses of a panel of plates, three for each vertex: for its translation and for its two rotations. Nothing is written before every name is looked at.
