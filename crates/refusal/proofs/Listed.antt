@@ -1,28 +1,30 @@
 -- The first that refuses, and its place: by induction on the numbers.
-use mathlib.Core.Path.{_≡_, refl, sym, ap}
+use mathlib.Core.Path.{_≡_, refl, sym, ap, _∙_}
 use mathlib.Core.Bool.{false}
 use mathlib.Core.List.{List, [], _∷_}
 use mathlib.Core.Logic.{_↔_}
-use Prim.Native.Nat.{ℕ, zero, suc, _<_}
+use Prim.Native.Nat.{ℕ, zero, suc, _+_, _*_, _/_, _%_, _<_}
 use native.Mathlib.Omega.{arith}
 use lib.Dec.{eqb}
 use lib.ListN.{length, getD}
+use borrow.Author.Count.{below-more}
 use borrow.Author.Tests.{ne-eqb}
 use Rattle.float.specs.Lists.{mapThrees}
+use Rattle.float.proofs.Fold.{map-at}
 use Rattle.refusal.specs.Refusal.{accepted}
 use Rattle.refusal.specs.Listed.{firstRefusal, firstPlace, FirstAt, NoneRefused}
 
 refuses : (m : ℕ) → eqb (suc m) accepted ≡ false
 refuses m = ne-eqb (suc m) accepted (λ (e : suc m ≡ accepted). omega arith)
 
--- a number that is accepted is passed over, any other is the first that refuses
-pub passed-over : (n : ℕ) (numbers : List ℕ) → n ≡ accepted → (firstRefusal (n ∷ numbers) ≡ firstRefusal numbers) × (firstPlace (n ∷ numbers) ≡ suc (firstPlace numbers))
-unfolding firstRefusal firstPlace
-passed-over n numbers e = rw e (refl, refl)
+-- none of the first k refuses: what a loop that stops at the first refusal keeps
+abbrev pub Passed : (numbers : List ℕ) (k : ℕ) → Type 0
+Passed numbers k = (j : ℕ) → j < k → getD numbers j accepted ≡ accepted
 
-pub is-first : (n : ℕ) (numbers : List ℕ) → (n ≡ accepted → ⊥) → (firstRefusal (n ∷ numbers) ≡ n) × (firstPlace (n ∷ numbers) ≡ 0)
-unfolding firstRefusal firstPlace
-is-first n numbers z = rw (ne-eqb n accepted z) (refl, refl)
+pub all-passed : (numbers : List ℕ) → Passed numbers (length numbers) → NoneRefused numbers
+all-passed [] p j = refl
+all-passed (n ∷ numbers) p zero = p 0 (omega arith)
+all-passed (n ∷ numbers) p (suc j) = all-passed numbers (λ j h. p (suc j) (omega arith)) j
 
 module _ (n : ℕ) (z : n ≡ accepted → ⊥) where
   found : (numbers : List ℕ) (k : ℕ) → firstRefusal numbers ≡ n → firstPlace numbers ≡ k → FirstAt numbers k n
@@ -71,7 +73,20 @@ none-place [] e = refl
 none-place (zero ∷ numbers) e = ap suc (none-place numbers e)
 none-place (suc m ∷ numbers) e = absurd (omega (arith, rw (refuses m) at e))
 
--- the first refusal of answers, one for three names each: above m where every answer that refuses is
+-- answers, one for three names each: that of the names from i on, and how one more is passed
+module _ {A : Type 0} (g : A → A → A → ℕ) (l : List A) (i : ℕ) (d : A) (whole : i % 3 ≡ 0) (inside : i + 2 < length l) where
+  abbrev here : ℕ
+  here = g (getD l i d) (getD l (i + 1) d) (getD l (i + 2) d)
+
+  pub threes-here : getD (mapThrees g l) (i / 3) accepted ≡ here
+  threes-here = let at : i / 3 * 3 ≡ i = omega arith in rw at at (map-at g l (i / 3) d accepted (rw at inside))
+
+  pub threes-passed : Passed (mapThrees g l) (i / 3) → here ≡ accepted → Passed (mapThrees g l) ((i + 3) / 3)
+  threes-passed p z =
+      let next : (i + 3) / 3 ≡ i / 3 + 1 = omega arith in
+      rw next (below-more (λ j. getD (mapThrees g l) j accepted ≡ accepted) (i / 3) p (threes-here ∙ z))
+
+-- their first refusal: above m where every answer that refuses is
 pub threes-above : {A : Type 0} (g : A → A → A → ℕ) (m : ℕ) → ((x y z : A) → (g x y z ≡ accepted → ⊥) → m < g x y z) → (l : List A)
     → (firstRefusal (mapThrees g l) ≡ accepted → ⊥) → m < firstRefusal (mapThrees g l)
 unfolding firstRefusal mapThrees

@@ -3,11 +3,11 @@ use mathlib.Core.Path.{_≡_, refl, sym, _∙_}
 use mathlib.Core.Bool.{Bool, true, false, cond}
 use mathlib.Core.List.{List}
 use mathlib.Core.Logic.{_↔_, _⊎_, inl, inr}
-use Prim.Native.Nat.{ℕ, zero, suc, _<_}
+use Prim.Native.Nat.{ℕ, zero, suc, _≤_, _<_}
 use native.Mathlib.Omega.{arith}
 use lib.Dec.{eqb}
 use borrow.Author.Tests.{ne-eqb}
-use Rattle.refusal.specs.Refusal.{accepted, Row, firstOf, Clear}
+use Rattle.refusal.specs.Refusal.{accepted, Row, firstOf, Cause, Clear}
 use Rattle.refusal.specs.Listed.{firstRefusal, firstPlace, listedNumber, listedPlace, NoneRefused, ListedCause, ListedExactly}
 use Rattle.refusal.proofs.Ladder.{Refusing, given-exactly, clear-exactly}
 use Rattle.refusal.proofs.Listed.{first-exactly, none-exactly, none-place}
@@ -80,6 +80,15 @@ module _ (early : List Row) (numbers : List ℕ) (late : List Row) where
           let e = given-exactly n some late .1 l in
           let is = by-late (clear-exactly early early-refusing .1 c) a (λ h. some (sym e ∙ h)) in
           (is .0 ∙ e, is .1 ∙ none-place numbers a ∙ sym z)
+
+    -- where all that comes later is above m, the numbers up to m are given for what is tested early alone
+    pub early-exactly : (m : ℕ) → ((firstRefusal numbers ≡ accepted → ⊥) → m < firstRefusal numbers) → ((firstOf late ≡ accepted → ⊥) → m < firstOf late)
+        → (n : ℕ) → (n ≡ accepted → ⊥) → n ≤ m → number ≡ n ↔ (Cause n early × (place ≡ 0))
+    early-exactly m answers lates n some h = (split (refuses (firstOf early)), λ c. back n 0 some (inl (c .0, refl)) .0)
+      where
+        split : (firstOf early ≡ accepted) ⊎ (firstOf early ≡ accepted → ⊥) → number ≡ n → Cause n early × (place ≡ 0)
+        split (inr c) e = let is = by-early c in (given-exactly n some early .0 (sym (is .0) ∙ e), is .1)
+        split (inl c) e = absurd (omega (arith, e, h, later-above m c answers lates (λ z. some (sym e ∙ z))))
 
     all-clear : number ≡ accepted → Clear early × NoneRefused numbers × Clear late
     all-clear e = split (refuses (firstOf early)) (refuses (firstRefusal numbers)) (refuses (firstOf late))
