@@ -13,4 +13,4 @@ bad-energy-spec = tie.close (tie.spec
     (λ c. search needs)
     (λ c κs. tt)
     (λ c. let c2 = c .before .before in
-    rw (c .all-finite2 .ensures, c2 .all-finite .ensures, c2 .before .before .is-finite .ensures)))
+    rw (c .all-finite .ensures, c2 .each-finite .ensures, c2 .before .before .is-finite .ensures)))
