@@ -4,6 +4,7 @@ use Rattle.float.specs.Ops.{Ops, ops}
 use Rattle.del_geo_core.specs.declared.mat3_row_major.Matrix3.{Matrix3}
 use Rattle.del_geo_core.specs.declared.tri2.V2.{V2}
 use Rattle.stvk.specs.Stvk.{dNdrOf, rowOf}
+use Rattle.stvk.specs.declared.Pairs.{Pairs}
 use Rattle.stvk.specs.declared.State.{State}
 use Rattle.stvk.specs.declared.Terms.{Terms}
 
@@ -33,5 +34,5 @@ module _ (f : Format) where
   }
 
   -- dtmp0 * area0 for jdim = 0, 1, 2, a row for each jno
-  unfoldable pub rowsOf : State → (gi ni : V2) → Matrix3
-  rowsOf s gi ni = record { x = rowOf f s gi ni (dNdrOf f 0); y = rowOf f s gi ni (dNdrOf f 1); z = rowOf f s gi ni (dNdrOf f 2) }
+  unfoldable pub rowsOf : State → (g : Pairs) (gi ni : V2) → Matrix3
+  rowsOf s g gi ni = record { x = rowOf f s g gi ni (dNdrOf f .x); y = rowOf f s g gi ni (dNdrOf f .y); z = rowOf f s g gi ni (dNdrOf f .z) }

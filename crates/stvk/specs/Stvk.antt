@@ -17,13 +17,17 @@ use Rattle.del_geo_core.specs.declared.vec3.V3.{V3}
 use Rattle.edges.specs.Edges as edges
 use Rattle.edges.specs.declared.Gd.{Gd}
 use Rattle.edges.specs.declared.Gu.{Gu}
+use Rattle.stvk.specs.declared.Pairs.{Pairs}
 use Rattle.stvk.specs.declared.Rest.{Rest}
 use Rattle.stvk.specs.declared.State.{State}
 
--- gd[0][idim] and gd[1][idim]
-unfoldable pub alongOf : Gd → (idim : ℕ) → V2
-alongOf gd idim = cond (eqb idim 0) (record { x = gd .x .x; y = gd .y .x })
-    (cond (eqb idim 1) (record { x = gd .x .y; y = gd .y .y }) (record { x = gd .x .z; y = gd .y .z }))
+-- one of three by its index
+unfoldable pub atOf : Pairs → (i : ℕ) → V2
+atOf pairs i = cond (eqb i 0) (pairs .x) (cond (eqb i 1) (pairs .y) (pairs .z))
+
+-- gd[0][idim] and gd[1][idim] for idim = 0, 1, 2
+unfoldable pub alongOf : Gd → Pairs
+alongOf gd = record { x = record { x = gd .x .x; y = gd .y .x }; y = record { x = gd .x .y; y = gd .y .y }; z = record { x = gd .x .z; y = gd .y .z } }
 
 module _ (f : Format) where
   open Ops (ops f) using (_⊕_, _⊗_, zero, half, one, two)
@@ -81,9 +85,8 @@ module _ (f : Format) where
   unfoldable pub wOf : State → Float
   wOf s = half ⊗ s .rest .area0 ⊗ dotOf f (s .glstrain) (s .spkstress)
 
-  -- dNdr[ino]
-  unfoldable pub dNdrOf : (ino : ℕ) → V2
-  dNdrOf ino = cond (eqb ino 0) (record { x = neg one; y = neg one }) (cond (eqb ino 1) (record { x = one; y = zero }) (record { x = zero; y = one }))
+  unfoldable pub dNdrOf : Pairs
+  dNdrOf = record { x = record { x = neg one; y = neg one }; y = record { x = one; y = zero }; z = record { x = zero; y = one } }
 
   -- dw[ino][idim]; gi is gd[0][idim] and gd[1][idim], ni is dNdr[ino], and gj, nj below are the same for jdim and jno
   unfoldable pub dwAtOf : (area0 : Float) (spkstress : V3) (gi ni : V2) → Float
@@ -91,7 +94,7 @@ module _ (f : Format) where
       area0 ⊗ (spkstress .x ⊗ gi .x ⊗ ni .x ⊕ spkstress .z ⊗ gi .x ⊗ ni .y ⊕ spkstress .z ⊗ gi .y ⊗ ni .x ⊕ spkstress .y ⊗ gi .y ⊗ ni .y)
 
   unfoldable pub dwOf : State → List Float
-  dwOf s = each 3 (λ ino. table 3 (λ idim. dwAtOf (s .rest .area0) (s .spkstress) (alongOf (s .gd) idim) (dNdrOf ino)))
+  dwOf s = each 3 (λ ino. table 3 (λ idim. dwAtOf (s .rest .area0) (s .spkstress) (atOf (alongOf (s .gd)) idim) (atOf dNdrOf ino)))
 
   -- from +0, term by term
   unfoldable pub dtmp0Of : (e : Matrix3) (gi ni gj nj : V2) → Float
@@ -118,12 +121,12 @@ module _ (f : Format) where
   abbrev pub dtmp1Of : (area0 : Float) (spkstress : V3) (ni nj : V2) → Float
   dtmp1Of area0 spkstress ni nj = dwAtOf area0 spkstress ni nj
 
-  -- dtmp0 * area0 for jdim = 0, 1, 2
-  unfoldable pub rowOf : State → (gi ni nj : V2) → V3
-  rowOf s gi ni nj = record {
-    x = dtmp0Of (s .tensor) gi ni (alongOf (s .gd) 0) nj ⊗ s .rest .area0;
-    y = dtmp0Of (s .tensor) gi ni (alongOf (s .gd) 1) nj ⊗ s .rest .area0;
-    z = dtmp0Of (s .tensor) gi ni (alongOf (s .gd) 2) nj ⊗ s .rest .area0;
+  -- dtmp0 * area0 for jdim = 0, 1, 2; g is gd[0][jdim] and gd[1][jdim] for each
+  unfoldable pub rowOf : State → (g : Pairs) (gi ni nj : V2) → V3
+  rowOf s g gi ni nj = record {
+    x = dtmp0Of (s .tensor) gi ni (g .x) nj ⊗ s .rest .area0;
+    y = dtmp0Of (s .tensor) gi ni (g .y) nj ⊗ s .rest .area0;
+    z = dtmp0Of (s .tensor) gi ni (g .z) nj ⊗ s .rest .area0;
   }
 
   -- a block of three rows; dtmp1 comes to its entries 0, 4 and 8
@@ -131,13 +134,11 @@ module _ (f : Format) where
   blockOf x y z dtmp1 = x .x ⊕ dtmp1 ∷ x .y ∷ x .z ∷ y .x ∷ y .y ⊕ dtmp1 ∷ y .z ∷ z .x ∷ z .y ∷ z .z ⊕ dtmp1 ∷ []
 
   -- ddw[ino][jno]
-  abbrev pub ddwAtOf : State → (ni nj : V2) → List Float
-  ddwAtOf s ni nj =
-      blockOf (rowOf s (alongOf (s .gd) 0) ni nj) (rowOf s (alongOf (s .gd) 1) ni nj) (rowOf s (alongOf (s .gd) 2) ni nj)
-      (dtmp1Of (s .rest .area0) (s .spkstress) ni nj)
+  abbrev pub ddwAtOf : State → (g : Pairs) (ni nj : V2) → List Float
+  ddwAtOf s g ni nj = blockOf (rowOf s g (g .x) ni nj) (rowOf s g (g .y) ni nj) (rowOf s g (g .z) ni nj) (dtmp1Of (s .rest .area0) (s .spkstress) ni nj)
 
   unfoldable pub ddwOf : State → List Float
-  ddwOf s = each 3 (λ ino. each 3 (λ jno. ddwAtOf s (dNdrOf ino) (dNdrOf jno)))
+  ddwOf s = each 3 (λ ino. each 3 (λ jno. ddwAtOf s (alongOf (s .gd)) (atOf dNdrOf ino) (atOf dNdrOf jno)))
 
   -- what the source returns
   unfoldable pub wdwddwOf : (p0 p1 : Tri3) (lambda myu : Float) → Float × List Float × List Float

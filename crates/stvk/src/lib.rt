@@ -5,7 +5,7 @@ ghost use lib.Ieee.{binary64};
 ghost use Rattle.float.specs.Lists.{each};
 ghost use Rattle.del_geo_core.specs.declared.mat3_row_major.Matrix3.{Matrix3};
 ghost use Rattle.del_geo_core.specs.declared.tri2.V2.{V2};
-ghost use Rattle.stvk.specs.Stvk.{restOf, elasticityTensorOf, stateOf, wOf, dNdrOf, alongOf, dwAtOf, dwOf, dtmp0Of, blockOf, ddwAtOf, ddwOf};
+ghost use Rattle.stvk.specs.Stvk.{restOf, elasticityTensorOf, stateOf, wOf, atOf, alongOf, dNdrOf, dwAtOf, dwOf, dtmp0Of, blockOf, ddwAtOf, ddwOf};
 ghost use Rattle.stvk.specs.Parts.{termsOf, rowsOf};
 use del_geo_core::curve_linear_coords;
 use del_geo_core::mat3_row_major;
@@ -34,6 +34,13 @@ pub struct State {
     pub glstrain: V3,
     pub tensor: Matrix3,
     pub spkstress: V3,
+}
+
+// A pair for each of three indices.
+pub struct Pairs {
+    pub x: V2,
+    pub y: V2,
+    pub z: V2,
 }
 
 // The terms of dtmp0 in the source's order, each without its last factor: that alone depends on jno.
@@ -128,34 +135,41 @@ pub fn w(s: State) -> f64
     0.5 * s.rest.area0 * vec3::dot(s.glstrain, s.spkstress)
 }
 
-// dNdr[ino]
-fn dndr(ino: usize) -> V2
-    ensures { λ r. ⌜ r ≡ dNdrOf binary64 ino ⌝ }
+// gd[0][idim] and gd[1][idim] for idim = 0, 1, 2
+fn along(gd: Gd) -> Pairs
+    ensures { λ r. ⌜ r ≡ alongOf gd ⌝ }
 {
-    match ino {
-        0 => V2 { x: -1.0, y: -1.0 },
-        1 => V2 { x: 1.0, y: 0.0 },
-        _ => V2 { x: 0.0, y: 1.0 },
-    }
+    let x = V2 {
+        x: gd.x.x,
+        y: gd.y.x,
+    };
+    let y = V2 {
+        x: gd.x.y,
+        y: gd.y.y,
+    };
+    let z = V2 {
+        x: gd.x.z,
+        y: gd.y.z,
+    };
+    Pairs { x, y, z }
 }
 
-// gd[0][idim] and gd[1][idim]
-fn along(gd: Gd, idim: usize) -> V2
-    ensures { λ r. ⌜ r ≡ alongOf gd idim ⌝ }
+fn dndr() -> Pairs
+    ensures { λ r. ⌜ r ≡ dNdrOf binary64 ⌝ }
 {
-    match idim {
-        0 => V2 {
-            x: gd.x.x,
-            y: gd.y.x,
-        },
-        1 => V2 {
-            x: gd.x.y,
-            y: gd.y.y,
-        },
-        _ => V2 {
-            x: gd.x.z,
-            y: gd.y.z,
-        },
+    let x = V2 { x: -1.0, y: -1.0 };
+    let y = V2 { x: 1.0, y: 0.0 };
+    let z = V2 { x: 0.0, y: 1.0 };
+    Pairs { x, y, z }
+}
+
+fn at(pairs: Pairs, i: usize) -> V2
+    ensures { λ r. ⌜ r ≡ atOf pairs i ⌝ }
+{
+    match i {
+        0 => pairs.x,
+        1 => pairs.y,
+        _ => pairs.z,
     }
 }
 
@@ -173,10 +187,12 @@ fn dw_at(area0: f64, spkstress: V3, gi: V2, ni: V2) -> f64
 pub fn dw(s: State) -> [f64; 9]
     ensures { λ r. ⌜ r ≡ dwOf binary64 s ⌝ }
 {
+    let g = along(s.gd);
+    let n = dndr();
     let mut dw = [0.0; 9];
     for ino in 0..3usize {
         for idim in 0..3usize {
-            dw[ino * 3 + idim] = dw_at(s.rest.area0, s.spkstress, along(s.gd, idim), dndr(ino));
+            dw[ino * 3 + idim] = dw_at(s.rest.area0, s.spkstress, at(g, idim), at(n, ino));
         }
     }
     dw
@@ -235,31 +251,29 @@ fn dtmp0(t: Terms, nj: V2) -> f64
 
 // dtmp0 * area0 for jdim = 0, 1, 2, a row for each jno. The sixteen products serve three jno, and each dtmp0 is small enough that the compiler puts it here with dNdr[jno] known,
 // where nothing is left of a product by 1 or -1.
-fn rows(s: State, gi: V2, ni: V2) -> Matrix3
-    ensures { λ r. ⌜ r ≡ rowsOf binary64 s gi ni ⌝ }
+fn rows(s: State, g: Pairs, gi: V2, ni: V2) -> Matrix3
+    ensures { λ r. ⌜ r ≡ rowsOf binary64 s g gi ni ⌝ }
 {
     let area0 = s.rest.area0;
-    let x = terms_of(s.tensor, gi, ni, along(s.gd, 0));
-    let y = terms_of(s.tensor, gi, ni, along(s.gd, 1));
-    let z = terms_of(s.tensor, gi, ni, along(s.gd, 2));
-    let n0 = dndr(0);
-    let n1 = dndr(1);
-    let n2 = dndr(2);
+    let x = terms_of(s.tensor, gi, ni, g.x);
+    let y = terms_of(s.tensor, gi, ni, g.y);
+    let z = terms_of(s.tensor, gi, ni, g.z);
+    let n = dndr();
     Matrix3 {
         x: V3 {
-            x: dtmp0(x, n0) * area0,
-            y: dtmp0(y, n0) * area0,
-            z: dtmp0(z, n0) * area0,
+            x: dtmp0(x, n.x) * area0,
+            y: dtmp0(y, n.x) * area0,
+            z: dtmp0(z, n.x) * area0,
         },
         y: V3 {
-            x: dtmp0(x, n1) * area0,
-            y: dtmp0(y, n1) * area0,
-            z: dtmp0(z, n1) * area0,
+            x: dtmp0(x, n.y) * area0,
+            y: dtmp0(y, n.y) * area0,
+            z: dtmp0(z, n.y) * area0,
         },
         z: V3 {
-            x: dtmp0(x, n2) * area0,
-            y: dtmp0(y, n2) * area0,
-            z: dtmp0(z, n2) * area0,
+            x: dtmp0(x, n.z) * area0,
+            y: dtmp0(y, n.z) * area0,
+            z: dtmp0(z, n.z) * area0,
         },
     }
 }
@@ -301,16 +315,17 @@ fn three_blocks(x: Matrix3, y: Matrix3, z: Matrix3, dtmp1: V3) -> [f64; 27]
 }
 
 // ddw[ino]: three blocks, for jno = 0, 1, 2.
-fn ddw_of_corner(s: State, ni: V2) -> [f64; 27]
-    ensures { λ r. ⌜ r ≡ each 3 (λ jno. ddwAtOf binary64 s ni (dNdrOf binary64 jno)) ⌝ }
+fn ddw_of_corner(s: State, g: Pairs, ni: V2) -> [f64; 27]
+    ensures { λ r. ⌜ r ≡ each 3 (λ jno. ddwAtOf binary64 s g ni (atOf (dNdrOf binary64) jno)) ⌝ }
 {
-    let x = rows(s, along(s.gd, 0), ni);
-    let y = rows(s, along(s.gd, 1), ni);
-    let z = rows(s, along(s.gd, 2), ni);
+    let n = dndr();
+    let x = rows(s, g, g.x, ni);
+    let y = rows(s, g, g.y, ni);
+    let z = rows(s, g, g.z, ni);
     let dtmp1 = V3 {
-        x: dw_at(s.rest.area0, s.spkstress, ni, dndr(0)),
-        y: dw_at(s.rest.area0, s.spkstress, ni, dndr(1)),
-        z: dw_at(s.rest.area0, s.spkstress, ni, dndr(2)),
+        x: dw_at(s.rest.area0, s.spkstress, ni, n.x),
+        y: dw_at(s.rest.area0, s.spkstress, ni, n.y),
+        z: dw_at(s.rest.area0, s.spkstress, ni, n.z),
     };
     three_blocks(x, y, z, dtmp1)
 }
@@ -318,9 +333,11 @@ fn ddw_of_corner(s: State, ni: V2) -> [f64; 27]
 pub fn ddw(s: State) -> [f64; 81]
     ensures { λ r. ⌜ r ≡ ddwOf binary64 s ⌝ }
 {
+    let g = along(s.gd);
+    let n = dndr();
     let mut ddw = [0.0; 81];
     for ino in 0..3usize {
-        let d = ddw_of_corner(s, dndr(ino));
+        let d = ddw_of_corner(s, g, at(n, ino));
         for k in 0..27usize {
             ddw[ino * 27 + k] = d[k];
         }

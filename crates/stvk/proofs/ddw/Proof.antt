@@ -8,7 +8,7 @@ use Rattle.float.specs.Lists.{_!_, each}
 use Rattle.float.specs.Ops.{ops}
 use Rattle.float.proofs.Fill.{run, rows, run-more, rows-more}
 use Rattle.stvk.specs.declared.State.{State}
-use Rattle.stvk.specs.Stvk.{dNdrOf, blockOf, ddwAtOf, ddwOf}
+use Rattle.stvk.specs.Stvk.{atOf, alongOf, dNdrOf, blockOf, ddwAtOf, ddwOf}
 use Rattle.stvk.proofs.ddw.Statement.{statement}
 use Rattle.stvk.proofs.ddw.Tie as tie
 
@@ -16,7 +16,7 @@ abbrev at : ℕ → ℕ → ℕ
 at ino k = ino * 27 + k
 
 abbrev entry : State → ℕ → ℕ → Float
-entry s ino k = each 3 (λ jno. ddwAtOf binary64 s (dNdrOf binary64 ino) (dNdrOf binary64 jno)) ! k
+entry s ino k = each 3 (λ jno. ddwAtOf binary64 s (alongOf (s .gd)) (atOf (dNdrOf binary64) ino) (atOf (dNdrOf binary64) jno)) ! k
 
 filled : (s : State) → rows at (entry s) 27 (replicate 81 (ops binary64 .zero)) 3 ≡ ddwOf binary64 s
 unfolding run rows blockOf ddwOf each
@@ -25,10 +25,12 @@ filled s = refl
 pub ddw-spec : {M : Type 1} → statement M
 unfolding run rows
 ddw-spec = tie.close (tie.spec
-    (λ s ddw₀ ino d k₀ ddw k. (k ≤ 27) × (ddw ≡ run (at ino) (entry s ino) ddw₀ k))
-    (λ s ddw₀ ino d k₀ ddw k. 27 - k)
-    (λ s ddw₀ ino₀ ddw ino. (ino ≤ 3) × (ddw ≡ rows at (entry s) 27 (replicate 81 (ops binary64 .zero)) ino))
-    (λ s ddw₀ ino₀ ddw ino. 3 - ino)
+    (λ s g n ddw₀ ino d k₀ ddw k. (k ≤ 27) × (ddw ≡ run (at ino) (entry s ino) ddw₀ k))
+    (λ s g n ddw₀ ino d k₀ ddw k. 27 - k)
+    (λ s g n ddw₀ ino₀ ddw ino. (ino ≤ 3) × (ddw ≡ rows at (entry s) 27 (replicate 81 (ops binary64 .zero)) ino))
+    (λ s g n ddw₀ ino₀ ddw ino. 3 - ino)
+    (λ c κs. tt)
+    (λ c κs. tt)
     (λ c. (omega arith, refl))
     (λ c κs. tt)
     (λ c κs. tt)
@@ -42,8 +44,8 @@ ddw-spec = tie.close (tie.spec
     (λ c. omega arith)
     (λ c. omega arith)
     (λ c. let m = c .before .loop2 in
-    let d = c .before .before in
-    (omega arith, run-more (at _) (entry _ _) _ (m .k) refl (rw (d .ddw-of-corner .ensures, d .before .dndr .ensures)) (m .inv .1)))
+    let d = c .before .before in let i = d .before in let n = i .before .before .before in
+    (omega arith, run-more (at _) (entry _ _) _ (m .k) refl (rw (d .ddw-of-corner .ensures, i .at .ensures, n .dndr .ensures, n .before .along .ensures)) (m .inv .1)))
     (λ c. omega arith)
     (λ c. omega arith)
     (λ c. let n = c .before .before .before .before .before .loop in

@@ -20,15 +20,9 @@ rows-spec = tie.close (tie.spec
     (λ c κs. tt)
     (λ c κs. tt)
     (λ c κs. tt)
-    (λ c κs. tt)
-    (λ c κs. tt)
-    (λ c κs. tt)
-    (λ c κs. tt)
-    (λ c κs. tt)
     (λ c. let d8 = c .before in let d7 = d8 .before in let d6 = d7 .before in let d5 = d6 .before in let d4 = d5 .before in let d3 = d4 .before in
-    let d2 = d3 .before in let d1 = d2 .before in let n2 = d1 .before in let n1 = n2 .before in let n0 = n1 .before in
-    let z = n0 .before in let gz = z .before in let y = gz .before in let gy = y .before in let x = gy .before in
-    let tx = x .terms-of .ensures in let ty = y .terms-of2 .ensures in let tz = z .terms-of3 .ensures in
+    let d2 = d3 .before in let d1 = d2 .before in let n = d1 .before in let z = n .before in let y = z .before in
+    let tx = y .before .terms-of .ensures in let ty = y .terms-of2 .ensures in let tz = z .terms-of3 .ensures in
     rw (
       c .dtmp09 .ensures _ _ _ _ tz,
       d8 .dtmp08 .ensures _ _ _ _ ty,
@@ -39,10 +33,5 @@ rows-spec = tie.close (tie.spec
       d3 .dtmp03 .ensures _ _ _ _ tz,
       d2 .dtmp02 .ensures _ _ _ _ ty,
       d1 .dtmp0 .ensures _ _ _ _ tx,
-      n2 .dndr3 .ensures,
-      n1 .dndr2 .ensures,
-      n0 .dndr .ensures,
-      gz .along3 .ensures,
-      gy .along2 .ensures,
-      x .before .along .ensures,
+      n .dndr .ensures,
     )))
