@@ -23,7 +23,7 @@ module _ (f : Format) where
   unfoldable pub wDwDdwPlateBendingOf : (p : Tri2) (u : Tri3) (thk lambda myu : Float) → Float × List Float × List Float
   wDwDdwPlateBendingOf p u thk lambda myu = let s = stateOf f p u thk lambda myu in (wOf f s, dwOf f s, ddwOf f s)
 
-  -- the divisors are the three dots of the inverse
+  -- what is refused (01-scope 2.1); the divisors are the three dots of the inverse
   unfoldable pub testsOf : (p : Tri2) (u : Tri3) (thk lambda myu : Float) → Tests
   testsOf p u thk lambda myu =
       let gu = stateOf f p u thk lambda myu .gu in
