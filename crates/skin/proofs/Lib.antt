@@ -1,4 +1,4 @@
-pub mod Sum
 pub mod SkinAnswer
+pub mod Sum
 pub mod Vertex
 pub mod Empty

@@ -1,14 +1,14 @@
 // The StVK energy of a whole skin, with its gradient: what `stvk_tri3::wdwddw_` gives for each triangle, added in the list's order from +0.
 ghost use mathlib.Core.Path.{_≡_};
-ghost use mathlib.Core.Bool.{true};
-ghost use Prim.Native.Nat.{_+_, _*_, _%_, _<_};
+ghost use Prim.Native.Nat.{_+_, _*_, _<_};
 ghost use lib.Ieee.{binary64};
 ghost use lib.ListN.{length};
-ghost use Rattle.refusal.specs.Panel.{namesBelow};
-ghost use Rattle.del_geo_core.specs.Vec3.{pointOf};
+ghost use Rattle.refusal.specs.Refusal.{Clear};
+ghost use Rattle.del_geo_core.specs.Tri3.{cornersOf};
 ghost use Rattle.places.specs.Places.{addedOf};
-ghost use Rattle.skin.specs.Skin.{pointAt, cornersAt, verticesOf, answerOf, badLengthOf, badSumOf, refusedOf, IsSum, IsSkin};
-use del_geo_core::vec3;
+ghost use Rattle.places.specs.Space.{pointAt, cornersAt};
+ghost use Rattle.skin.specs.Skin.{badLengthOf, badSumOf, earlyOf, refusedOf, answerOf, IsSkin};
+use del_geo_core::vec3::V3;
 use refusal::ACCEPTED;
 use refusal::BAD_ANSWER;
 use refusal::BAD_LENGTH;
@@ -46,24 +46,27 @@ fn refused(number: u32, place: usize) -> Skin
 }
 
 // Point i, of a flat list of three numbers for each.
-fn point_at(xyz: &[f64], i: usize) -> [f64; 3]
+fn point_at(xyz: &[f64], i: usize) -> V3
     requires { ⌜ i * 3 + 2 < length (now xyz) ⌝ }
     ensures { λ r. ⌜ r ≡ pointAt (now (xyz .entry)) i ⌝ }
 {
-    [xyz[i * 3], xyz[i * 3 + 1], xyz[i * 3 + 2]]
+    V3 {
+        x: xyz[i * 3],
+        y: xyz[i * 3 + 1],
+        z: xyz[i * 3 + 2],
+    }
 }
 
 fn corners_at(vtx2xyz: &[f64], i0: usize, i1: usize, i2: usize) -> [[f64; 3]; 3]
     requires { ⌜ i0 * 3 + 2 < length (now «vtx2xyz») ⌝ }
     requires { ⌜ i1 * 3 + 2 < length (now «vtx2xyz») ⌝ }
     requires { ⌜ i2 * 3 + 2 < length (now «vtx2xyz») ⌝ }
-    ensures { λ r. ⌜ r ≡ cornersAt (now («vtx2xyz» .entry)) i0 i1 i2 ⌝ }
+    ensures { λ r. ⌜ cornersOf r ≡ cornersAt (now («vtx2xyz» .entry)) i0 i1 i2 ⌝ }
 {
-    [
-        point_at(vtx2xyz, i0),
-        point_at(vtx2xyz, i1),
-        point_at(vtx2xyz, i2),
-    ]
+    let p0 = point_at(vtx2xyz, i0);
+    let p1 = point_at(vtx2xyz, i1);
+    let p2 = point_at(vtx2xyz, i2);
+    [[p0.x, p0.y, p0.z], [p1.x, p1.y, p1.z], [p2.x, p2.y, p2.z]]
 }
 
 // The single kernel's answer for one triangle.
@@ -89,15 +92,15 @@ fn answer(
 
 // A triangle's gradient, to its three names.
 fn add_gradient(vtx2dw: &mut [f64], i0: usize, i1: usize, i2: usize, dw: [f64; 9])
-    ensures { λ _. ⌜ now («vtx2dw» .exit) ≡ addedOf binary64 (now («vtx2dw» .entry)) i0 i1 i2 (pointOf (pointAt dw 0)) (pointOf (pointAt dw 1)) (pointOf (pointAt dw 2)) ⌝ }
+    ensures { λ _. ⌜ now («vtx2dw» .exit) ≡ addedOf binary64 (now («vtx2dw» .entry)) i0 i1 i2 (pointAt dw 0) (pointAt dw 1) (pointAt dw 2) ⌝ }
 {
-    let x0 = vec3::point(point_at(&dw, 0));
-    let x1 = vec3::point(point_at(&dw, 1));
-    let x2 = vec3::point(point_at(&dw, 2));
+    let x0 = point_at(&dw, 0);
+    let x1 = point_at(&dw, 1);
+    let x2 = point_at(&dw, 2);
     places::add_triangle(vtx2dw, i0, i1, i2, x0, x1, x2);
 }
 
-// Adds the triangles in the list's order, up to the first that is refused: its number, how many were added, and their energy.
+// Adds the triangles in the list's order, up to the first that is refused. Lengths and names are right.
 fn add_all(
     vtx2ini: &[f64],
     vtx2def: &[f64],
@@ -106,13 +109,10 @@ fn add_all(
     myu: f64,
     vtx2dw: &mut [f64],
 ) -> Skin
-    requires { ⌜ length (now «vtx2def») ≡ length (now «vtx2ini») ⌝ }
-    requires { ⌜ length (now «vtx2dw») ≡ length (now «vtx2ini») ⌝ }
-    requires { ⌜ length (now «vtx2ini») % 3 ≡ 0 ⌝ }
-    requires { ⌜ length (now «tri2vtx») % 3 ≡ 0 ⌝ }
-    requires { ⌜ namesBelow (verticesOf (now «vtx2ini»)) (now «tri2vtx») ≡ true ⌝ }
-    ensures { λ r. ⌜ IsSum binary64 (now («vtx2ini» .entry)) (now («vtx2def» .entry)) (now («tri2vtx» .entry)) lambda myu (now («vtx2dw» .entry)) r (now («vtx2dw» .exit)) ⌝ }
+    requires { ⌜ Clear (earlyOf (length (now «vtx2ini»)) (length (now «vtx2def»)) (now «tri2vtx») (length (now «vtx2dw»))) ⌝ }
+    ensures { λ r. ⌜ IsSkin binary64 (now («vtx2ini» .entry)) (now («vtx2def» .entry)) (now («tri2vtx» .entry)) lambda myu (now («vtx2dw» .entry)) r (now («vtx2dw» .exit)) ⌝ }
 {
+    float::clear(vtx2dw);
     let mut w = 0.0;
     let mut i = 0;
     while i < tri2vtx.len() {
@@ -121,20 +121,21 @@ fn add_all(
         let i2 = tri2vtx[i + 2];
         let e = answer(vtx2ini, vtx2def, lambda, myu, i0, i1, i2);
         if e.number != ACCEPTED {
-            return Skin {
-                number: e.number,
-                place: i / 3,
-                w,
-            };
+            float::clear(vtx2dw);
+            return refused(e.number, i / 3);
         }
         w += e.w;
         let dw = e.dw;
         add_gradient(vtx2dw, i0, i1, i2, dw);
         i += 3;
     }
+    if bad_sum(w, vtx2dw) {
+        float::clear(vtx2dw);
+        return refused(BAD_ANSWER, i / 3);
+    }
     Skin {
         number: ACCEPTED,
-        place: i / 3,
+        place: 0,
         w,
     }
 }
@@ -157,17 +158,5 @@ pub fn wdw(
     if !refusal::names_below(tri2vtx, vtx2ini.len() / 3) {
         return refused(BAD_NAME, 0);
     }
-    float::clear(vtx2dw);
-    let sum = add_all(vtx2ini, vtx2def, tri2vtx, lambda, myu, vtx2dw);
-    let last = refusal::first(bad_sum(sum.w, vtx2dw), BAD_ANSWER, ACCEPTED);
-    let number = refusal::first(sum.number != ACCEPTED, sum.number, last);
-    if number != ACCEPTED {
-        float::clear(vtx2dw);
-        return refused(number, sum.place);
-    }
-    Skin {
-        number,
-        place: 0,
-        w: sum.w,
-    }
+    add_all(vtx2ini, vtx2def, tri2vtx, lambda, myu, vtx2dw)
 }

@@ -7,22 +7,11 @@ pub add-gradient-spec : {M : Type 1} → statement M
 add-gradient-spec = tie.close (tie.spec
     (λ c. search needs)
     (λ c κs. search needs)
-    (λ c κs. tt)
+    (λ c. search needs)
+    (λ c κs. search needs)
     (λ c. search needs)
     (λ c κs. search needs)
     (λ c κs. tt)
     (λ c. search needs)
-    (λ c κs. search needs)
-    (λ c κs. tt)
-    (λ c κs. tt)
-    (λ c. search needs)
-    (λ c. let add = c .before .before in let third = add .before .before in let second = third .before .before .before in let first = second .before .before .before in
-    rw (
-      add .add-triangle .ensures,
-      third .point3 .ensures,
-      third .before .point-at3 .ensures,
-      second .point2 .ensures,
-      second .before .point-at2 .ensures,
-      first .point .ensures,
-      first .before .point-at .ensures,
-    )))
+    (λ c. let add = c .before .before in let third = add .before .before in let second = third .before .before in
+    rw (add .add-triangle .ensures, third .point-at3 .ensures, second .point-at2 .ensures, second .before .before .point-at .ensures)))
