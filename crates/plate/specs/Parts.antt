@@ -25,7 +25,7 @@ module _ (f : Format) where
   open Ops (ops f) using (_⊕_, zero, half)
 
   infixl 75 _⊕_
-  unfoldable pub sumOf : (bending0 bending1 shear0 shear1 shear2 : Float) → Float
+  abbrev pub sumOf : (bending0 bending1 shear0 shear1 shear2 : Float) → Float
   sumOf bending0 bending1 shear0 shear1 shear2 = zero ⊕ bending0 ⊕ bending1 ⊕ shear0 ⊕ shear1 ⊕ shear2
 
   -- an entry of dw

@@ -13,6 +13,7 @@ use Rattle.del_geo_core.specs.declared.tri2.Tri2.{Tri2}
 use Rattle.del_geo_core.specs.declared.tri2.V2.{V2}
 use Rattle.del_geo_core.specs.declared.tri3.Tri3.{Tri3}
 use Rattle.del_geo_core.specs.declared.vec3.V3.{V3}
+use Rattle.edges.specs.Edges.{planeOf}
 use Rattle.plate.specs.Bending as bending
 use Rattle.plate.specs.Shear as shear
 use Rattle.plate.specs.declared.GuGu.{GuGu}
@@ -26,17 +27,13 @@ abbrev pub column2Of : (dstrain : List (List Float)) (i : ℕ) → V2
 column2Of dstrain i = record { x = dstrain !! 0 ! i; y = dstrain !! 1 ! i }
 
 module _ (f : Format) where
-  open Ops (ops f) using (_⊕_, _⊖_, _⊗_, zero, half)
+  open Ops (ops f) using (_⊕_, _⊗_, zero, half)
 
-  infixl 75 _⊕_ _⊖_
+  infixl 75 _⊕_
   infixl 80 _⊗_
-  -- covariant basis vectors
+  -- covariant basis vectors: two edges and half the thickness
   unfoldable pub gdOf : (p : Tri2) (thk : Float) → Matrix3
-  gdOf p thk = record {
-    x = record { x = p .p1 .x ⊖ p .p0 .x; y = p .p1 .y ⊖ p .p0 .y; z = zero };
-    y = record { x = p .p2 .x ⊖ p .p0 .x; y = p .p2 .y ⊖ p .p0 .y; z = zero };
-    z = record { x = zero; y = zero; z = half ⊗ thk };
-  }
+  gdOf p thk = let plane = planeOf f p in record { x = plane .x; y = plane .y; z = record { x = zero; y = zero; z = half ⊗ thk } }
 
   unfoldable pub guGuOf : DualBasis → GuGu
   guGuOf gu = record {
@@ -55,13 +52,13 @@ module _ (f : Format) where
       let area = areaOf f (p .p0) (p .p1) (p .p2) in
       let gd = gdOf p thk in
       let gu = guOf p thk in
-      let «gu_gu» = guGuOf gu in
+      let guGu = guGuOf gu in
       record {
         thk = thk;
         gd = gd;
         gu = gu;
-        bending = bending.bendingOf f gd «gu_gu» u area thk lambda myu;
-        shear = shear.shearOf f gd «gu_gu» u area thk myu;
+        bending = bending.bendingOf f gd guGu u area thk lambda myu;
+        shear = shear.shearOf f gd guGu u area thk myu;
       }
 
   -- the loops' `+=`, for w and for each entry of dw and ddw: from +0, first the points t0 of bending, then the points (r, s) of shear

@@ -48,20 +48,13 @@ pub(crate) struct Dstrain {
     pub shear2: V2,
 }
 
-// Covariant basis vectors.
+// Covariant basis vectors: two edges and half the thickness.
 fn gd(p: Tri2, thk: f64) -> Matrix3
     ensures { λ r. ⌜ r ≡ gdOf binary64 p thk ⌝ }
 {
-    let x = V3 {
-        x: p.p1.x - p.p0.x,
-        y: p.p1.y - p.p0.y,
-        z: 0.0,
-    };
-    let y = V3 {
-        x: p.p2.x - p.p0.x,
-        y: p.p2.y - p.p0.y,
-        z: 0.0,
-    };
+    let plane = edges::plane(p);
+    let x = plane.x;
+    let y = plane.y;
     let z = V3 {
         x: 0.0,
         y: 0.0,

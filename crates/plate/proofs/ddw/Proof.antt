@@ -11,10 +11,10 @@ use Rattle.float.proofs.Fill.{run, rows, run-more, rows-more}
 use Rattle.plate.specs.Bending.{t0s}
 use Rattle.plate.specs.Shear.{rs, ss}
 use Rattle.plate.specs.Plate.{accumulatedOf, ddwOf}
-use Rattle.plate.specs.Parts.{columnsOf, sumOf, ddwAtOf}
+use Rattle.plate.specs.Parts.{columnsOf, ddwAtOf}
 use Rattle.plate.specs.declared.Dstrain.{Dstrain}
 use Rattle.plate.specs.declared.State.{State}
-use Rattle.plate.proofs.FiveLists.{dstrainAt, columns-are}
+use Rattle.plate.proofs.FiveLists.{dstrainAt}
 use Rattle.plate.proofs.ddw.Statement.{statement}
 use Rattle.plate.proofs.ddw.Tie as tie
 
@@ -25,12 +25,12 @@ abbrev entry : State → (ℕ → Dstrain) → ℕ → ℕ → Float
 entry s at i j = table 9 (λ j. ddwAtOf binary64 s (at i) (at j)) ! j
 
 filled : (s : State) → rows place (entry s (dstrainAt (s .gd) (s .thk))) 9 (replicate 81 (ops binary64 .zero)) 9 ≡ ddwOf binary64 s
-unfolding run rows each table fold columnsOf accumulatedOf sumOf ddwAtOf ddwOf t0s rs ss
+unfolding run rows each table fold columnsOf accumulatedOf ddwAtOf ddwOf t0s rs ss
 filled s = refl
 
-done : (s : State) {at : ℕ → Dstrain} {n : ℕ} {ddw : List Float} → n ≡ 9 → at ≡ dstrainAt (s .gd) (s .thk)
-    → ddw ≡ rows place (entry s at) 9 (replicate 81 (ops binary64 .zero)) n → ddw ≡ ddwOf binary64 s
-done s en ea e = e ∙ rw (en, ea) (filled s)
+done : (s : State) {at : ℕ → Dstrain} {n : ℕ} {ddw : List Float} → n ≡ 9 → ddw ≡ rows place (entry s at) 9 (replicate 81 (ops binary64 .zero)) n
+    → at ≡ dstrainAt (s .gd) (s .thk) → ddw ≡ ddwOf binary64 s
+done s en e ea = e ∙ rw (en, ea) (filled s)
 
 pub ddw-spec : {M : Type 1} → statement M
 unfolding run rows
@@ -68,10 +68,4 @@ ddw-spec = tie.close (tie.spec
     (λ c. let n = c .before .before .before .before .before .before .before .before .before .loop in
     let m = c .before .loop2 in
     (omega arith, rows-more place (entry _ (columnsOf _ _ _ _ _)) 9 _ (n .i) (m .j) (omega arith) (n .inv .1) (m .inv .1)))
-    (λ c. let n = c .before .loop in
-    let c7 = c .before .before in let c6 = c7 .before in let c5 = c6 .before in let c4 = c5 .before in let c3 = c4 .before in let c2 = c3 .before in
-    let s = c2 .before .before .args .s in
-    let e : n .i ≡ 9 = omega arith in
-    done s e
-    (columns-are (s .gd) (s .thk) (c2 .before .t0-first .ensures) (c2 .dstrain .ensures) (c3 .t0-second .ensures) (c4 .dstrain2 .ensures) (c5 .dstrain3 .ensures)
-    (c6 .dstrain4 .ensures) (c7 .dstrain5 .ensures)) (n .inv .1)))
+    (λ c. let n = c .before .loop in let e : n .i ≡ 9 = omega arith in done _ {at = columnsOf _ _ _ _ _} e (n .inv .1) (cc)))
