@@ -1,4 +1,5 @@
 // Sizes the panels that are built in here and prints them for a person: the masses of each vertex (01-scope 5.3), or in words why there are none (01-scope 2.1).
+ghost use Prim.Native.Nat.{_≤_};
 mod number;
 
 use libc::STDOUT_FILENO;
@@ -8,9 +9,12 @@ fn text(bytes: &[u8]) {
 }
 
 // Ends an entry of a table that has used so many places of its column.
-fn end_entry(used: usize, column: usize) {
-    for _ in used..column {
-        text(b" ");
+fn end_entry(used: usize, column: usize)
+    requires { ⌜ column ≤ 16 ⌝ }
+{
+    let blanks = [b' '; 16];
+    if used < column {
+        text(&blanks[used..column]);
     }
     text(b"  ");
 }
@@ -23,20 +27,23 @@ fn put_row(vertex: usize, translation: f64, rotation_x: f64, rotation_y: f64) {
     text(b"\n");
 }
 
-fn put_table(vtx2mass: &[f64]) {
-    text(b"vertex  translation       rotation x        rotation y\n");
-    for v in 0..vtx2mass.len() / 3 {
-        put_row(v, vtx2mass[v * 3], vtx2mass[v * 3 + 1], vtx2mass[v * 3 + 2]);
-    }
-}
-
-// From +0, in the vertices' order.
-fn sum_of_translations(vtx2mass: &[f64]) -> f64 {
+// A row for each vertex; answers the sum of the translations, from +0, in the vertices' order.
+fn put_rows(vtx2mass: &[f64]) -> f64 {
     let mut sum = 0.0;
     for v in 0..vtx2mass.len() / 3 {
-        sum = sum + vtx2mass[v * 3];
+        let translation = vtx2mass[v * 3];
+        put_row(v, translation, vtx2mass[v * 3 + 1], vtx2mass[v * 3 + 2]);
+        sum = sum + translation;
     }
     sum
+}
+
+fn put_table(vtx2mass: &[f64]) {
+    text(b"vertex  translation       rotation x        rotation y\n");
+    let sum = put_rows(vtx2mass);
+    text(b"sum of translations ");
+    number::put(sum);
+    text(b"\n");
 }
 
 fn put_refusal(number: u32) {
@@ -64,12 +71,6 @@ fn put_heading(vertices: usize, triangles: usize, thick: f64, rho: f64) {
     text(b"\n");
 }
 
-fn put_sum(vtx2mass: &[f64]) {
-    text(b"sum of translations ");
-    number::put(sum_of_translations(vtx2mass));
-    text(b"\n");
-}
-
 fn size(tri2vtx: &[usize], vtx2xy: &[f64], thick: f64, rho: f64, vtx2mass: &mut [f64]) {
     put_heading(vtx2xy.len() / 2, tri2vtx.len() / 3, thick, rho);
     let number = mitc_tri3::mass_lumped_plate_bending(tri2vtx, vtx2xy, thick, rho, vtx2mass);
@@ -78,7 +79,6 @@ fn size(tri2vtx: &[usize], vtx2xy: &[f64], thick: f64, rho: f64, vtx2mass: &mut 
         return;
     }
     put_table(vtx2mass);
-    put_sum(vtx2mass);
 }
 
 // The points of 01-scope 7, density 2 and thickness 1.
@@ -89,13 +89,9 @@ fn square(tri2vtx: [usize; 6]) {
 }
 
 // The wall strip: two rows of eleven vertices, the hinge row first.
-fn column(c: usize) -> f64 {
-    24.0 * ((c % 11) as u32 as f64)
-}
-
 fn coordinate(i: usize) -> f64 {
     if i % 2 == 0 {
-        return column(i / 2);
+        return 24.0 * ((i / 2 % 11) as u32 as f64);
     }
     if i / 2 < 11 { 0.0 } else { 40.0 }
 }
@@ -113,24 +109,26 @@ fn name(triangle: usize, corner: usize) -> usize {
     }
 }
 
-fn fill_xy(vtx2xy: &mut [f64]) {
-    for i in 0..vtx2xy.len() {
+fn coordinates() -> [f64; 44] {
+    let mut vtx2xy = [0.0; 44];
+    for i in 0..44 {
         vtx2xy[i] = coordinate(i);
     }
+    vtx2xy
 }
 
-fn fill_names(tri2vtx: &mut [usize]) {
-    for i in 0..tri2vtx.len() {
+fn names() -> [usize; 60] {
+    let mut tri2vtx = [0usize; 60];
+    for i in 0..60 {
         tri2vtx[i] = name(i / 3, i % 3);
     }
+    tri2vtx
 }
 
 fn strip() {
-    let mut vtx2xy = [0.0; 44];
-    let mut tri2vtx = [0usize; 60];
+    let vtx2xy = coordinates();
+    let tri2vtx = names();
     let mut vtx2mass = [0.0; 66];
-    fill_xy(&mut vtx2xy);
-    fill_names(&mut tri2vtx);
     size(&tri2vtx, &vtx2xy, 0.5, 1.0 / 512.0, &mut vtx2mass);
 }
 
