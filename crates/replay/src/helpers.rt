@@ -1,4 +1,5 @@
 // The helpers by their numbers (docs/REPLAY.md): how many numbers each takes, and its answer.
+ghost use Prim.Native.Nat.{_≤_};
 use crate::input;
 use crate::output;
 use del_geo_core::curve_linear_coords;
@@ -8,16 +9,16 @@ use del_geo_core::tri3;
 use del_geo_core::vec3;
 use del_geo_core::vec3::V3;
 
-pub(crate) fn is_known(helper: u64) -> bool {
-    (1 <= helper) & (helper <= 11)
-}
-
-pub(crate) fn inputs(helper: u64) -> usize {
+// 0 where the number is no helper's.
+pub(crate) fn inputs(helper: u64) -> usize
+    ensures { λ r. ⌜ r ≤ 24 ⌝ }
+{
     match helper {
+        1 | 2 | 3 | 7 | 10 => 6,
         4 => 4,
         5 | 6 => 3,
         8 | 9 | 11 => 9,
-        _ => 6,
+        _ => 0,
     }
 }
 

@@ -1,24 +1,12 @@
 // Words and numbers from standard input.
+ghost use Prim.Native.Nat.{_≤_};
 use libc::STDIN_FILENO;
 
-pub(crate) enum Next {
-    Word(u64),
-    // The input ended before the word's first byte.
-    End,
-    // The input ended within the word.
-    Cut,
-}
-
-// A number; not ok where the input ended before its last byte.
-struct Number {
-    ok: bool,
-    x: f64,
-}
-
-// A list's length or a name; likewise.
-pub(crate) struct Whole {
+// The input can end at a word's first byte (`ended`), or within it; ok where the word is whole.
+pub(crate) struct Word {
+    pub ended: bool,
     pub ok: bool,
-    pub n: usize,
+    pub w: u64,
 }
 
 // Numbers from the front of the array, +0 behind them; not ok where the input ended before the last of them.
@@ -27,26 +15,13 @@ pub(crate) struct Numbers {
     pub x: [f64; 24],
 }
 
-pub(crate) fn next_word() -> Next {
+pub(crate) fn next_word() -> Word {
     let mut b = [0u8; 8];
     let n = io::read_full(STDIN_FILENO, &mut b);
-    if n == 0 {
-        return Next::End;
-    }
-    if n < 8 {
-        return Next::Cut;
-    }
-    Next::Word(float::of_bytes(b[0], b[1], b[2], b[3], b[4], b[5], b[6], b[7]))
-}
-
-fn next_number() -> Number {
-    match next_word() {
-        Next::Word(w) => Number {
-            ok: true,
-            x: float::of_word(w),
-        },
-        Next::End => Number { ok: false, x: 0.0 },
-        Next::Cut => Number { ok: false, x: 0.0 },
+    Word {
+        ended: n == 0,
+        ok: n == 8,
+        w: float::of_bytes(b[0], b[1], b[2], b[3], b[4], b[5], b[6], b[7]),
     }
 }
 
@@ -55,23 +30,17 @@ fn index(w: u64) -> usize {
     w as usize
 }
 
-pub(crate) fn next_whole() -> Whole {
-    match next_word() {
-        Next::Word(w) => Whole {
-            ok: true,
-            n: index(w),
-        },
-        Next::End => Whole { ok: false, n: 0 },
-        Next::Cut => Whole { ok: false, n: 0 },
-    }
+// The length of a list of the record.
+pub(crate) fn next_length() -> usize {
+    index(next_word().w)
 }
 
 // Whether the input had a word for every place.
 pub(crate) fn fill_names(names: &mut [usize]) -> bool {
     let mut ok = true;
     for i in 0..names.len() {
-        let read = next_whole();
-        names[i] = read.n;
+        let read = next_word();
+        names[i] = index(read.w);
         ok = ok & read.ok;
     }
     ok
@@ -80,24 +49,19 @@ pub(crate) fn fill_names(names: &mut [usize]) -> bool {
 pub(crate) fn fill_numbers(xs: &mut [f64]) -> bool {
     let mut ok = true;
     for i in 0..xs.len() {
-        let read = next_number();
-        xs[i] = read.x;
+        let read = next_word();
+        xs[i] = float::of_word(read.w);
         ok = ok & read.ok;
     }
     ok
 }
 
-// The next count numbers, at most 24.
-pub(crate) fn next_numbers(count: usize) -> Numbers {
+// The next count numbers.
+pub(crate) fn next_numbers(count: usize) -> Numbers
+    requires { ⌜ count ≤ 24 ⌝ }
+{
     let mut x = [0.0; 24];
-    let mut ok = true;
-    for i in 0..24 {
-        if i < count {
-            let read = next_number();
-            x[i] = read.x;
-            ok = ok & read.ok;
-        }
-    }
+    let ok = fill_numbers(&mut x[0..count]);
     Numbers { ok, x }
 }
 

@@ -1,19 +1,20 @@
 // The kernels by their numbers (docs/REPLAY.md): how many numbers each takes, and its answer.
+ghost use Prim.Native.Nat.{_≤_};
 use crate::input;
 use crate::output;
 use refusal::Energy;
 use stvk_tri3::Strain;
 
-pub(crate) fn is_known(kind: u64) -> bool {
-    ((2 <= kind) & (kind <= 5)) | (kind == 8)
-}
-
-pub(crate) fn inputs(kind: u64) -> usize {
+// 0 where the number is no kernel's.
+pub(crate) fn inputs(kind: u64) -> usize
+    ensures { λ r. ⌜ r ≤ 24 ⌝ }
+{
     match kind {
         2 => 24,
         3 | 8 => 15,
         4 => 20,
-        _ => 18,
+        5 => 18,
+        _ => 0,
     }
 }
 

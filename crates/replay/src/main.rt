@@ -3,18 +3,8 @@
 mod helpers;
 mod input;
 mod kernels;
-mod masses;
+mod lists;
 mod output;
-mod skins;
-
-use input::Next;
-
-// What became of a record.
-enum Outcome {
-    Answered,
-    Ended,
-    Unreadable,
-}
 
 const ROOT: u64 = 1;
 
@@ -24,89 +14,64 @@ const SKIN: u64 = 7;
 
 const HELPER: u64 = 9;
 
-fn replay_root() -> Outcome {
-    match input::next_word() {
-        Next::Word(x) => {
-            output::start_line(0);
-            output::put_word(root::sqrt_word(x));
-            output::end_line();
-            Outcome::Answered
-        }
-        Next::End => Outcome::Unreadable,
-        Next::Cut => Outcome::Unreadable,
-    }
-}
-
-fn replay_helper() -> Outcome {
-    match input::next_word() {
-        Next::Word(helper) => {
-            let read = input::next_numbers(helpers::inputs(helper));
-            if read.ok & helpers::is_known(helper) {
-                output::start_line(0);
-                let x = read.x;
-                helpers::answer(helper, input::rows(x));
-                output::end_line();
-                return Outcome::Answered;
-            }
-            Outcome::Unreadable
-        }
-        Next::End => Outcome::Unreadable,
-        Next::Cut => Outcome::Unreadable,
-    }
-}
-
-fn replay_kernel(kind: u64) -> Outcome {
-    let read = input::next_numbers(kernels::inputs(kind));
+// Each of these says whether there was a whole record, and then has written its line.
+fn replay_root() -> bool {
+    let read = input::next_word();
     if read.ok {
+        output::start_line(0);
+        output::put_word(root::sqrt_word(read.w));
+        output::end_line();
+    }
+    read.ok
+}
+
+fn replay_helper() -> bool {
+    let helper = input::next_word();
+    let count = helpers::inputs(helper.w);
+    let read = input::next_numbers(count);
+    let known = helper.ok & (0 < count) & read.ok;
+    if known {
+        output::start_line(0);
+        let x = read.x;
+        helpers::answer(helper.w, input::rows(x));
+        output::end_line();
+    }
+    known
+}
+
+fn replay_kernel(kind: u64) -> bool {
+    let count = kernels::inputs(kind);
+    let read = input::next_numbers(count);
+    let known = (0 < count) & read.ok;
+    if known {
         let x = read.x;
         kernels::answer(kind, input::rows(x));
         output::end_line();
-        return Outcome::Answered;
     }
-    Outcome::Unreadable
+    known
 }
 
-// Of a record of lists.
-fn of_lists(answered: bool) -> Outcome {
-    if answered {
-        Outcome::Answered
-    } else {
-        Outcome::Unreadable
-    }
-}
-
-fn replay_one() -> Outcome {
-    match input::next_word() {
-        Next::Word(kind) => {
-            if kind == ROOT {
-                replay_root()
-            } else if kind == HELPER {
-                replay_helper()
-            } else if kind == MASSES {
-                of_lists(masses::is_answered())
-            } else if kind == SKIN {
-                of_lists(skins::is_answered())
-            } else if kernels::is_known(kind) {
-                replay_kernel(kind)
-            } else {
-                Outcome::Unreadable
-            }
-        }
-        Next::End => Outcome::Ended,
-        Next::Cut => Outcome::Unreadable,
+fn replay(kind: u64) -> bool {
+    match kind {
+        ROOT => replay_root(),
+        MASSES => lists::is_answered(false),
+        SKIN => lists::is_answered(true),
+        HELPER => replay_helper(),
+        _ => replay_kernel(kind),
     }
 }
 
 // Whether to go on after a record.
 fn is_answered() -> bool {
-    match replay_one() {
-        Outcome::Answered => true,
-        Outcome::Ended => false,
-        Outcome::Unreadable => {
-            output::unreadable();
-            false
-        }
+    let kind = input::next_word();
+    if kind.ended {
+        return false;
     }
+    let answered = kind.ok && replay(kind.w);
+    if !answered {
+        output::unreadable();
+    }
+    answered
 }
 
 // A proved loop ends, and nothing says that the input does: so the records are counted down, from a number that no run uses up.

@@ -12,11 +12,12 @@ fill-numbers-spec = tie.close (tie.spec
     (λ xs₀ ok₀ i₀ i-end xs ok i. i-end - i)
     (λ c. (omega arith, refl, refl))
     (λ c κs. tt)
-    (λ c. omega (arith, c .before .before .before .before .good))
+    (λ c κs. tt)
+    (λ c. omega (arith, c .before .before .before .before .before .good))
     (λ c. omega arith)
     (λ c. omega arith)
     (λ c. omega arith)
-    (λ c. let l = c .before .before .before in
+    (λ c. let l = c .before .before .before .before in
     (omega arith, refl, length-set (l .loop .xs) (l .loop .i) _ ∙ l .loop .inv .2))
     (λ c. c .before .loop .inv .2)
     (λ c. tt))
