@@ -35,20 +35,20 @@ use Rattle.examples.specs.Table.{Hold, p, u, plate, p0, p1, stvk, tableO
 -- Examples 8 and 9 take all 91 values for the number alone, and each value takes the number: so the number is computed once, and then put in its place.
 plate-accepted : plate +2 .number ≡ accepted
 unfolding plate sub mul div ofBits every tabled each fold rootOf firstOf kernelNumber badEnergyOf energyOf vec3.isFiniteOf vec3.overOf tri2.isFiniteOf tri3.isFiniteOf coords.contravariantOf
-    coords.inverseOf mat3.multVecOf bend.coeffaOf bend.coeffbOf bend.deDtOf bend.bendingOf bend.t0s bend.strainOf bend.dstrainOf bend.wOf bend.dwOf bend.ddwOf shear.coeffaOf
-    shear.coeffbOf shear.shearOf shear.rs shear.ss shear.strainOf shear.stressOf shear.deRt01Of shear.deSt20Of shear.dcoeffERtOf shear.dstrainOf shear.wOf shear.dwOf shear.ddwOf
-    plates.gdOf plates.guGuOf plates.guOf plates.stateOf plates.accumulatedOf plates.wOf plates.dwOf plates.ddwOf edges.planeOf zeroDivisorOf mitc.badInputOf mitc.wDwDdwPlateBendingOf mitc.testsOf mitc.plateOf
+    coords.inverseOf mat3.multVecOf bend.bendingOf bend.t0s bend.dstrainOf bend.wOf bend.dwOf bend.ddwOf
+    shear.shearOf shear.rs shear.ss shear.dstrainOf shear.wOf shear.dwOf shear.ddwOf
+    plates.gdOf plates.guGuOf plates.guOf plates.stateOf plates.accumulatedOf plates.wOf plates.dwOf plates.ddwOf edges.planeOf zeroDivisorOf mitc.badInputOf plates.wDwDdwPlateBendingOf mitc.testsOf mitc.plateOf
 plate-accepted = refl
 
 plate-refused : plate +0 .number ≡ zeroDivisor
 unfolding plate sub mul div ofBits firstOf kernelNumber energyOf vec3.isFiniteOf vec3.overOf tri2.isFiniteOf tri3.isFiniteOf coords.contravariantOf coords.inverseOf plates.gdOf plates.guOf
-    plates.stateOf edges.planeOf zeroDivisorOf mitc.badInputOf mitc.wDwDdwPlateBendingOf mitc.testsOf mitc.plateOf
+    plates.stateOf edges.planeOf zeroDivisorOf mitc.badInputOf plates.wDwDdwPlateBendingOf mitc.testsOf mitc.plateOf
 plate-refused = refl
 
 stvk-accepted : stvk .number ≡ accepted
 unfolding stvk sub mul div ofBits every tabled each rootOf firstOf kernelNumber badEnergyOf energyOf vec3.isFiniteOf vec3.normOf vec3.overOf vec3.unitOf tri3.isFiniteOf tri3.normalOf
-    tri3.unitNormalAreaOf coords.contravariantOf mat3.multVecOf edges.spaceOf edges.glstrainOf zeroDivisorOf energy.alongOf energy.restOf energy.glstrainOf
-    energy.gugu0Of energy.elasticityTensorOf energy.stateOf energy.wOf energy.dNdrOf energy.dwAtOf energy.dwOf energy.dtmp0Of energy.dtmp1Of energy.rowOf energy.blockOf energy.ddwOf
+    tri3.unitNormalAreaOf coords.contravariantOf mat3.multVecOf edges.spaceOf edges.glstrainOf zeroDivisorOf energy.atOf energy.alongOf energy.restOf energy.glstrainOf
+    energy.gugu0Of energy.elasticityTensorOf energy.stateOf energy.wOf energy.dNdrOf energy.dwAtOf energy.dwOf energy.dtmp0Of energy.rowOf energy.blockOf energy.ddwOf
     energy.wdwddwOf stvks.badInputOf stvks.testsOf stvks.stvkOf
 stvk-accepted = refl
 
@@ -58,7 +58,7 @@ plateAs thk n =
     energyOf binary64 n (plates.wOf binary64 s) (plates.dwOf binary64 s) (plates.ddwOf binary64 s)
 
 plate-as : (thk : ℕ) {n : ℕ} → plate thk .number ≡ n → plate thk ≡ plateAs thk n
-unfolding plate mitc.plateOf mitc.wDwDdwPlateBendingOf energyOf
+unfolding plate mitc.plateOf plates.wDwDdwPlateBendingOf energyOf
 plate-as thk is = ap (plateAs thk) is
 
 abbrev stvkAs : (n : ℕ) → Energy
@@ -72,10 +72,10 @@ stvk-as is = ap stvkAs is
 
 numbers-given : Hold (tableOf (plateAs +2 accepted) (plateAs +0 zeroDivisor) (stvkAs accepted))
 unfolding tableOf sub mul div ofBits toBits every tabled each fold foldThrees rootOf rootWordOf firstOf kernelNumber energyOf withinLimits vec3.isFiniteOf vec3.normOf vec3.overOf vec3.unitOf
-    tri2.isFiniteOf tri3.isFiniteOf tri3.normalOf tri3.areaOf tri3.unitNormalAreaOf edge.lengthOf coords.contravariantOf coords.inverseOf mat3.multVecOf bend.coeffaOf bend.coeffbOf
-    bend.deDtOf bend.bendingOf bend.t0s bend.strainOf bend.wOf shear.coeffaOf shear.coeffbOf shear.shearOf shear.rs shear.ss shear.strainOf shear.stressOf shear.wOf plates.gdOf
+    tri2.isFiniteOf tri3.isFiniteOf tri3.normalOf tri3.areaOf tri3.unitNormalAreaOf edge.lengthOf coords.contravariantOf coords.inverseOf mat3.multVecOf
+    bend.bendingOf bend.t0s bend.wOf shear.shearOf shear.rs shear.ss shear.wOf plates.gdOf
     plates.guGuOf plates.guOf plates.stateOf plates.accumulatedOf plates.wOf addVertex addTriangle cornersAt badLengthOf namedFinite badInputOf massOf addMasses addAll massesOf
-    numberOf bufferOf leftOf zeroDivisorOf edges.planeOf edges.spaceOf edges.glstrainOf strain.restOf strain.gugu0Of strain.wOf strain.hogeOf strain.dwKOf strain.dwOf strain.valuesOf strain.restOfGreenLagrange strains.testedOf strains.testsOf strains.strainOf strains.answerOf energy.alongOf
+    numberOf bufferOf leftOf zeroDivisorOf edges.planeOf edges.spaceOf edges.glstrainOf strain.restOf strain.gugu0Of strain.wOf strain.hogeOf strain.dwKOf strain.dwOf strain.valuesOf strain.restOfGreenLagrange strains.testedOf strains.testsOf strains.strainOf strains.answerOf energy.atOf energy.alongOf
     energy.restOf energy.glstrainOf energy.gugu0Of energy.elasticityTensorOf energy.stateOf energy.wOf energy.dNdrOf energy.dwAtOf energy.dwOf bending.isFiniteOf
     bending.divisorsOf bending.kOf bending.wOf bending.dwdpOf bending.wdwOf bending.testsOf bending.bendingOf bending.answerOf
 numbers-given = refl

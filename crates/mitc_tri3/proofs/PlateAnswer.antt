@@ -11,7 +11,8 @@ use Rattle.refusal.specs.declared.Tests.{Tests}
 use Rattle.refusal.proofs.EnergyAnswer as energy
 use Rattle.del_geo_core.specs.Tri2 as tri2
 use Rattle.del_geo_core.specs.Tri3 as tri3
-use Rattle.mitc_tri3.specs.Plate.{wDwDdwPlateBendingOf, testsOf, plateOf, IsPlate}
+use Rattle.plate.specs.Plate.{wDwDdwPlateBendingOf}
+use Rattle.mitc_tri3.specs.Plate.{testsOf, plateOf, IsPlate}
 
 module _ (f : Format) (p u : List (List Float)) (thk lambda myu : Float) where
   open Ops (ops f) using (zero)

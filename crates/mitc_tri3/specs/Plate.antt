@@ -12,22 +12,18 @@ use Rattle.del_geo_core.specs.Tri2 as tri2
 use Rattle.del_geo_core.specs.Tri3 as tri3
 use Rattle.del_geo_core.specs.declared.tri2.Tri2.{Tri2}
 use Rattle.del_geo_core.specs.declared.tri3.Tri3.{Tri3}
-use Rattle.plate.specs.Plate.{stateOf, wOf, dwOf, ddwOf}
+use Rattle.plate.specs.Plate.{stateOf, wDwDdwPlateBendingOf}
 
 -- a number that is looked at is not finite (01-scope 2.1: 3)
 unfoldable pub badInputOf : (p : Tri2) (u : Tri3) (thk lambda myu : Float) → Bool
 badInputOf p u thk lambda myu = not (tri2.isFiniteOf p && tri3.isFiniteOf u && finite thk && finite lambda && finite myu)
 
 module _ (f : Format) where
-  -- what the source returns: (w, dw, ddw)
-  unfoldable pub wDwDdwPlateBendingOf : (p : Tri2) (u : Tri3) (thk lambda myu : Float) → Float × List Float × List Float
-  wDwDdwPlateBendingOf p u thk lambda myu = let s = stateOf f p u thk lambda myu in (wOf f s, dwOf f s, ddwOf f s)
-
   -- what is refused (01-scope 2.1); the divisors are the three dots of the inverse
   unfoldable pub testsOf : (p : Tri2) (u : Tri3) (thk lambda myu : Float) → Tests
   testsOf p u thk lambda myu =
       let gu = stateOf f p u thk lambda myu .gu in
-      let (w, dw, ddw) = wDwDdwPlateBendingOf p u thk lambda myu in
+      let (w, dw, ddw) = wDwDdwPlateBendingOf f p u thk lambda myu in
       record {
         «bad_input» = badInputOf p u thk lambda myu;
         «bad_stiffness» = false;
@@ -38,7 +34,7 @@ module _ (f : Format) where
 
   unfoldable pub plateOf : (p : Tri2) (u : Tri3) (thk lambda myu : Float) → Energy
   plateOf p u thk lambda myu =
-      let (w, dw, ddw) = wDwDdwPlateBendingOf p u thk lambda myu in
+      let (w, dw, ddw) = wDwDdwPlateBendingOf f p u thk lambda myu in
       energyOf f (kernelNumber (testsOf p u thk lambda myu)) w dw ddw
 
   -- THE statement of `w_dw_ddw_plate_bending`

@@ -1,5 +1,6 @@
 // Sizes the panels that are built in here and prints them for a person: the masses of each vertex (01-scope 5.3), or in words why there are none (01-scope 2.1).
 ghost use Prim.Native.Nat.{_≤_};
+
 mod number;
 
 use libc::STDOUT_FILENO;

@@ -86,3 +86,7 @@ module _ (f : Format) where
       accumulatedOf
       (λ t0. let dstrain = bending.dstrainOf f (st .gd) (st .thk) t0 in bending.ddwOf f (st .bending) (column3Of dstrain i) (column3Of dstrain j))
       (λ r s. let dstrain = shear.dstrainOf f (st .gd) (st .thk) r s in shear.ddwOf f (st .shear) (column2Of dstrain i) (column2Of dstrain j))))))
+
+  -- what the source returns: (w, dw, ddw)
+  unfoldable pub wDwDdwPlateBendingOf : (p : Tri2) (u : Tri3) (thk lambda myu : Float) → Float × List Float × List Float
+  wDwDdwPlateBendingOf p u thk lambda myu = let st = stateOf p u thk lambda myu in (wOf st, dwOf st, ddwOf st)

@@ -1,5 +1,6 @@
 -- `w_dw_ddw_plate_bending` meets its contract: what its calls ensure, put in one after the other, is the definition.
-use Rattle.mitc_tri3.specs.Plate.{wDwDdwPlateBendingOf, testsOf, plateOf}
+use Rattle.plate.specs.Plate.{wDwDdwPlateBendingOf}
+use Rattle.mitc_tri3.specs.Plate.{testsOf, plateOf}
 use Rattle.mitc_tri3.proofs.w_dw_ddw_plate_bending.Statement.{statement}
 use Rattle.mitc_tri3.proofs.w_dw_ddw_plate_bending.Tie as tie
 
