@@ -1,5 +1,7 @@
 /*
- * Calls an exported function many times, so that the instructions of one call can be counted as C sees it (docs/SPEED.md). Runs and lines are those of crates/speed.
+ * Calls an exported function many times, so that the instructions of one call can be counted as C sees it (docs/SPEED.md). Standard input holds runs of big-endian 64-bit words: the routine's number of
+ * docs/REPLAY.md, how many calls, and 24 numbers by their bits, its inputs first; for masses in place of these the lengths of the two lists, thickness, density, the coordinates and the names; for a skin
+ * how many numbers each of its point lists has, how many names, lambda, myu, the points at rest, those deformed and the names. A line for each run: the bits of the sum of what the calls gave.
  * `speed PATH CALLS` calls mesh_read on the file at PATH instead.
  */
 #include "del_fem.h"

@@ -1,5 +1,5 @@
 //! Calls a routine of the original files, or the book's strain, many times, so that the
-//! instructions of one call can be counted. Runs and lines are those of `crates/speed`.
+//! instructions of one call can be counted. Runs and lines are those of `c/speed.c`.
 
 #[path = "../green_lagrange.rs"]
 mod green_lagrange;
