@@ -25,7 +25,8 @@ use Rattle.places.specs.Places.{addedOf}
 use Rattle.places.specs.Space.{pointAt}
 use Rattle.places.proofs.Places.{added, triangle-length}
 use Rattle.skin.specs.Sums.{Kernel, numbersOf, addEnergy, addGradient, energyOf, gradientOf}
-use Rattle.skin.specs.Skin.{badLengthOf, badSumOf, earlyOf, lateOf, skinOf, refusedOf, IsSkinOver}
+use Rattle.skin.specs.Skin.{badLengthOf, badSumOf, earlyOf, lateOf, skinOf, IsSkinOver}
+use Rattle.skin.specs.Parts.{refusedOf}
 use Rattle.skin.specs.declared.Skin.{Skin}
 use Rattle.skin.proofs.SkinAnswer.{Above, count, numbers-exactly, sized}
 
@@ -86,9 +87,8 @@ module _ (f : Format) (answer : Kernel) (ini def : ℕ) (tri2vtx : List ℕ) (be
       unfolding skinOf every leftOf
       later n k some cause =
           let e = numbers-exactly f answer ini def tri2vtx before (refl, refl) .refused-exactly n k some .1 (inr (clear, cause)) in
-          let h =
-          later-above early numbers late badName (clear-exactly early refl .1 clear) (threes-above _ badName above tri2vtx) (first-above badName late refl)
-          (λ z. some (sym (e .0) ∙ z)) in
+          let answers = threes-above _ badName above tri2vtx in
+          let h = later-above early numbers late badName (clear-exactly early refl .1 clear) answers (first-above badName late refl) (λ z. some (sym (e .0) ∙ z)) in
           rw (e .0, e .1, ne-eqb n accepted some, lt-leb n badName (rw (e .0) at h)) (refl, d ∙ rw size)
 
       pub refused-here : (i : ℕ) → i % 3 ≡ 0 → i + 2 < length tri2vtx → {e : Energy} → e ≡ answer (name i) (name (i + 1)) (name (i + 2)) → (e .number ≡ accepted → ⊥)

@@ -19,8 +19,7 @@ use Rattle.stvk_tri3.specs.Stvk.{stvkOf}
 use Rattle.skin.specs.Sums.{Kernel, numbersOf, energyOf, gradientOf}
 use Rattle.skin.specs.declared.Skin.{Skin}
 
--- ini, def, names and places: how long the lists of the points at rest, the deformed points, the names and the gradient are
--- a limit is passed; or points at rest, deformed points and gradient differ in length; or 3 does not divide it
+-- from the lengths of the lists: a limit is passed; or points at rest, deformed points and gradient differ in length; or 3 does not divide it
 unfoldable pub badLengthOf : (ini def names places : ℕ) → Bool
 badLengthOf ini def names places = panel.badLengthOf (ini / 3) names places || not (eqb ini places) || not (eqb def places)
 
@@ -51,15 +50,11 @@ module _ (f : Format) (answer : Kernel) (ini def : ℕ) (tri2vtx : List ℕ) whe
       let number = listedNumber early numbers late in
       record { number = number; place = listedPlace early numbers late; w = cond (eqb number accepted) (energyOf f answer tri2vtx) zero }
 
-  -- the buffer was `before` and is `after`
+  -- THE statement of such a call: the buffer was `before` and is `after`
   abbrev pub IsSkinOver : (before : List Float) (r : Skin) (after : List Float) → Type 0
   IsSkinOver before r after = (r ≡ skinOf (length before)) × (after ≡ leftOf f keeps (r .number) (gradientOf f answer tri2vtx (length before)) before)
 
 module _ (f : Format) where
-  -- nothing but the number and the place
-  abbrev pub refusedOf : (number place : ℕ) → Skin
-  refusedOf number place = record { number = number; place = place; w = ops f .zero }
-
   -- the single kernel's answer for the triangle of three names
   unfoldable pub answerOf : (vtx2ini vtx2def : List Float) (lambda myu : Float) → Kernel
   answerOf vtx2ini vtx2def lambda myu i0 i1 i2 = stvkOf f (cornersAt vtx2ini i0 i1 i2) (cornersAt vtx2def i0 i1 i2) lambda myu

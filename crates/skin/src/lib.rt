@@ -7,7 +7,8 @@ ghost use Rattle.refusal.specs.Refusal.{Clear};
 ghost use Rattle.del_geo_core.specs.Tri3.{cornersOf};
 ghost use Rattle.places.specs.Places.{addedOf};
 ghost use Rattle.places.specs.Space.{pointAt, cornersAt};
-ghost use Rattle.skin.specs.Skin.{badLengthOf, badSumOf, earlyOf, refusedOf, answerOf, IsSkin};
+ghost use Rattle.skin.specs.Skin.{badLengthOf, badSumOf, earlyOf, answerOf, IsSkin};
+ghost use Rattle.skin.specs.Parts.{refusedOf};
 use del_geo_core::vec3::V3;
 use refusal::ACCEPTED;
 use refusal::BAD_ANSWER;
@@ -100,7 +101,7 @@ fn add_gradient(vtx2dw: &mut [f64], i0: usize, i1: usize, i2: usize, dw: [f64; 9
     places::add_triangle(vtx2dw, i0, i1, i2, x0, x1, x2);
 }
 
-// Adds the triangles in the list's order, up to the first that is refused. Lengths and names are right.
+// What is left to do where lengths and names are right: adds the triangles in the list's order, up to the first that is refused.
 fn add_all(
     vtx2ini: &[f64],
     vtx2def: &[f64],

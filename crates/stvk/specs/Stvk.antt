@@ -85,6 +85,7 @@ module _ (f : Format) where
   unfoldable pub wOf : State → Float
   wOf s = half ⊗ s .rest .area0 ⊗ dotOf f (s .glstrain) (s .spkstress)
 
+  -- dNdr[0], dNdr[1] and dNdr[2]
   unfoldable pub dNdrOf : Pairs
   dNdrOf = record { x = record { x = neg one; y = neg one }; y = record { x = one; y = zero }; z = record { x = zero; y = one } }
 

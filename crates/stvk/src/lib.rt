@@ -37,7 +37,7 @@ pub struct State {
 }
 
 // A pair for each of three indices.
-pub struct Pairs {
+pub(crate) struct Pairs {
     pub x: V2,
     pub y: V2,
     pub z: V2,
@@ -135,7 +135,7 @@ pub fn w(s: State) -> f64
     0.5 * s.rest.area0 * vec3::dot(s.glstrain, s.spkstress)
 }
 
-// gd[0][idim] and gd[1][idim] for idim = 0, 1, 2
+// gd[0][idim] and gd[1][idim] for idim = 0, 1, 2.
 fn along(gd: Gd) -> Pairs
     ensures { λ r. ⌜ r ≡ alongOf gd ⌝ }
 {

@@ -1,4 +1,4 @@
-// Ported from stvk_tri3.rs: the strain of a triangle, and its StVK energy; by request a second strain. Here each gets its tests and its number; the numbers are made in `strain` and `stvk`.
+// Ported from stvk_tri3.rs: the strain of a triangle, and its StVK energy; by request a second strain. `strain` and `stvk` compute them; here are the tests, and what is answered.
 ghost use mathlib.Core.Path.{_≡_};
 ghost use lib.Ieee.{binary64};
 ghost use Rattle.stvk_tri3.specs.GreenLagrange.{IsGreenLagrange};
