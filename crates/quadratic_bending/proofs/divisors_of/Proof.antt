@@ -5,4 +5,6 @@ use Rattle.quadratic_bending.proofs.divisors_of.Tie as tie
 
 pub divisors-of-spec : {M : Type 1} → statement M
 unfolding divisorsOf
-divisors-of-spec = tie.close (tie.spec (λ c κs. tt) (λ c κs. tt) (λ c κs. tt) (λ c κs. tt) (λ c. cc))
+divisors-of-spec = tie.close (tie.spec (λ c κs. tt) (λ c κs. tt) (λ c κs. tt) (λ c κs. tt)
+    (λ c. let c3 = c .before in let c2 = c3 .before in
+    rw (c .sqrt .ensures .same, c3 .length .ensures, c2 .area2 .ensures, c2 .before .area .ensures)))

@@ -5,4 +5,6 @@ use Rattle.quadratic_bending.proofs.is_finite.Tie as tie
 
 pub is-finite-spec : {M : Type 1} → statement M
 unfolding isFiniteOf
-is-finite-spec = tie.close (tie.spec (λ c κs. tt) (λ c κs. tt) (λ c κs. tt) (λ c κs. tt) (λ c. cc))
+is-finite-spec = tie.close (tie.spec (λ c κs. tt) (λ c κs. tt) (λ c κs. tt) (λ c κs. tt)
+    (λ c. let c3 = c .before in let c2 = c3 .before in
+    rw (c .is-finite4 .ensures, c3 .is-finite3 .ensures, c2 .is-finite2 .ensures, c2 .before .is-finite .ensures)))

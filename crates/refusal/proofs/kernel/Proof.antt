@@ -11,4 +11,5 @@ kernel-spec = tie.close (tie.spec
     (λ c κs. tt)
     (λ c κs. tt)
     (λ c κs. tt)
-    (λ c. cc))
+    (λ c. let c4 = c .before in let c3 = c4 .before in let c2 = c3 .before in
+    rw (c .first5 .ensures, c4 .first4 .ensures, c3 .first3 .ensures, c2 .first2 .ensures, c2 .before .first .ensures)))
