@@ -1,8 +1,9 @@
-// The edges from corner 0 of a triangle as covariant vectors, with which the strains, StVK and the plate begin (stvk_tri3.rs, mitc_tri3.rs: gd). An index 0, 1, 2 of the
-// sources is x, y, z here: gd[0][1] is gd.x.y.
+// What the strains, StVK and the plate begin with (stvk_tri3.rs, mitc_tri3.rs: gd, gu): the edges from corner 0 of a triangle as covariant vectors, and numbers made of them.
+// An index 0, 1, 2 of the sources is x, y, z here: gd[0][1] is gd.x.y.
 ghost use mathlib.Core.Path.{_≡_};
 ghost use lib.Ieee.{binary64};
-ghost use Rattle.edges.specs.Edges.{planeOf, spaceOf, glstrainOf};
+ghost use Rattle.edges.specs.Edges.{planeOf, spaceOf, glstrainOf, guGuOf};
+use del_geo_core::curve_linear_coords::DualBasis;
 use del_geo_core::tri2::Tri2;
 use del_geo_core::tri3::Tri3;
 use del_geo_core::vec3;
@@ -19,6 +20,14 @@ pub struct Gd {
 pub struct Gu {
     pub x: Divided,
     pub y: Divided,
+}
+
+// The dots of the plate's contravariant vectors.
+pub struct GuGu {
+    pub rr: f64,
+    pub ss: f64,
+    pub sr: f64,
+    pub tt: f64,
 }
 
 // Of a plane triangle.
@@ -55,5 +64,16 @@ pub fn glstrain(gd0: Gd, gd: Gd) -> V3
         x: 0.5 * (vec3::dot(gd.x, gd.x) - vec3::dot(gd0.x, gd0.x)),
         y: 0.5 * (vec3::dot(gd.y, gd.y) - vec3::dot(gd0.y, gd0.y)),
         z: vec3::dot(gd.x, gd.y) - vec3::dot(gd0.x, gd0.y),
+    }
+}
+
+pub fn gu_gu(gu: DualBasis) -> GuGu
+    ensures { λ r. ⌜ r ≡ guGuOf binary64 gu ⌝ }
+{
+    GuGu {
+        rr: vec3::dot(gu.x.v, gu.x.v),
+        ss: vec3::dot(gu.y.v, gu.y.v),
+        sr: vec3::dot(gu.x.v, gu.y.v),
+        tt: vec3::dot(gu.z.v, gu.z.v),
     }
 }

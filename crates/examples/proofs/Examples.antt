@@ -17,8 +17,8 @@ use Rattle.del_geo_core.specs.Tri3 as tri3
 use Rattle.del_geo_core.specs.Edge as edge
 use Rattle.del_geo_core.specs.CurveLinearCoords as coords
 use Rattle.del_geo_core.specs.Mat3RowMajor as mat3
-use Rattle.plate.specs.Bending as bend
-use Rattle.plate.specs.Shear as shear
+use Rattle.plate_bending.specs.Bending as bend
+use Rattle.plate_shear.specs.Shear as shear
 use Rattle.plate.specs.Plate as plates
 use Rattle.mitc_tri3.specs.Plate as mitc
 use Rattle.mitc_tri3.specs.Masses.{badInputOf, numberOf, bufferOf}
@@ -37,7 +37,7 @@ plate-accepted : plate +2 .number ≡ accepted
 unfolding plate sub mul div ofBits every tabled each fold rootOf firstOf kernelNumber badEnergyOf energyOf vec3.isFiniteOf vec3.overOf tri2.isFiniteOf tri3.isFiniteOf coords.contravariantOf
     coords.inverseOf mat3.multVecOf bend.bendingOf bend.t0s bend.dstrainOf bend.wOf bend.dwOf bend.ddwOf
     shear.shearOf shear.rs shear.ss shear.dstrainOf shear.wOf shear.dwOf shear.ddwOf
-    plates.gdOf plates.guGuOf plates.guOf plates.stateOf plates.accumulatedOf plates.wOf plates.dwOf plates.ddwOf edges.planeOf zeroDivisorOf mitc.badInputOf plates.wDwDdwPlateBendingOf mitc.testsOf mitc.plateOf
+    plates.gdOf edges.guGuOf plates.guOf plates.stateOf plates.accumulatedOf plates.wOf plates.dwOf plates.ddwOf edges.planeOf zeroDivisorOf mitc.badInputOf plates.wDwDdwPlateBendingOf mitc.testsOf mitc.plateOf
 plate-accepted = refl
 
 plate-refused : plate +0 .number ≡ zeroDivisor
@@ -74,7 +74,7 @@ numbers-given : Hold (tableOf (plateAs +2 accepted) (plateAs +0 zeroDivisor) (st
 unfolding tableOf sub mul div ofBits toBits every tabled each fold foldThrees rootOf rootWordOf firstOf kernelNumber energyOf withinLimits vec3.isFiniteOf vec3.normOf vec3.overOf vec3.unitOf
     tri2.isFiniteOf tri3.isFiniteOf tri3.normalOf tri3.areaOf tri3.unitNormalAreaOf edge.lengthOf coords.contravariantOf coords.inverseOf mat3.multVecOf
     bend.bendingOf bend.t0s bend.wOf shear.shearOf shear.rs shear.ss shear.wOf plates.gdOf
-    plates.guGuOf plates.guOf plates.stateOf plates.accumulatedOf plates.wOf addVertex addTriangle cornersAt badLengthOf namedFinite badInputOf massOf addMasses addAll massesOf
+    edges.guGuOf plates.guOf plates.stateOf plates.accumulatedOf plates.wOf addVertex addTriangle cornersAt badLengthOf namedFinite badInputOf massOf addMasses addAll massesOf
     numberOf bufferOf leftOf zeroDivisorOf edges.planeOf edges.spaceOf edges.glstrainOf strain.restOf strain.gugu0Of strain.wOf strain.hogeOf strain.dwKOf strain.dwOf strain.valuesOf strain.restOfGreenLagrange strains.testedOf strains.testsOf strains.strainOf strains.answerOf energy.atOf energy.alongOf
     energy.restOf energy.glstrainOf energy.gugu0Of energy.elasticityTensorOf energy.stateOf energy.wOf energy.dNdrOf energy.dwAtOf energy.dwOf bending.isFiniteOf
     bending.divisorsOf bending.kOf bending.wOf bending.dwdpOf bending.wdwOf bending.testsOf bending.bendingOf bending.answerOf

@@ -1,4 +1,2 @@
-pub mod Bending
-pub mod Shear
 pub mod Plate
 pub mod Parts

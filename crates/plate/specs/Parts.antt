@@ -5,8 +5,8 @@ use Prim.Native.Nat.{ℕ}
 use lib.Ieee.{Float, Format}
 use Rattle.float.specs.Lists.{_!_}
 use Rattle.float.specs.Ops.{Ops, ops}
-use Rattle.plate.specs.Bending as bending
-use Rattle.plate.specs.Shear as shear
+use Rattle.plate_bending.specs.Bending as bending
+use Rattle.plate_shear.specs.Shear as shear
 use Rattle.plate.specs.Plate.{column3Of, column2Of}
 use Rattle.plate.specs.declared.Dstrain.{Dstrain}
 use Rattle.plate.specs.declared.State.{State}

@@ -6,17 +6,15 @@ use Rattle.float.specs.Lists.{_!_, _!!_, each, fold, table}
 use Rattle.float.specs.Ops.{Ops, ops}
 use Rattle.del_geo_core.specs.CurveLinearCoords.{inverseOf}
 use Rattle.del_geo_core.specs.Tri2.{areaOf}
-use Rattle.del_geo_core.specs.Vec3.{dotOf}
 use Rattle.del_geo_core.specs.declared.curve_linear_coords.DualBasis.{DualBasis}
 use Rattle.del_geo_core.specs.declared.mat3_row_major.Matrix3.{Matrix3}
 use Rattle.del_geo_core.specs.declared.tri2.Tri2.{Tri2}
 use Rattle.del_geo_core.specs.declared.tri2.V2.{V2}
 use Rattle.del_geo_core.specs.declared.tri3.Tri3.{Tri3}
 use Rattle.del_geo_core.specs.declared.vec3.V3.{V3}
-use Rattle.edges.specs.Edges.{planeOf}
-use Rattle.plate.specs.Bending as bending
-use Rattle.plate.specs.Shear as shear
-use Rattle.plate.specs.declared.GuGu.{GuGu}
+use Rattle.edges.specs.Edges.{planeOf, guGuOf}
+use Rattle.plate_bending.specs.Bending as bending
+use Rattle.plate_shear.specs.Shear as shear
 use Rattle.plate.specs.declared.State.{State}
 
 -- dstrain[k][ino][idof] for each k, where i is ino * 3 + idof
@@ -35,14 +33,6 @@ module _ (f : Format) where
   unfoldable pub gdOf : (p : Tri2) (thk : Float) → Matrix3
   gdOf p thk = let plane = planeOf f p in record { x = plane .x; y = plane .y; z = record { x = zero; y = zero; z = half ⊗ thk } }
 
-  unfoldable pub guGuOf : DualBasis → GuGu
-  guGuOf gu = record {
-    rr = dotOf f (gu .x .v) (gu .x .v);
-    ss = dotOf f (gu .y .v) (gu .y .v);
-    sr = dotOf f (gu .x .v) (gu .y .v);
-    tt = dotOf f (gu .z .v) (gu .z .v);
-  }
-
   unfoldable pub guOf : (p : Tri2) (thk : Float) → DualBasis
   guOf p thk = let gd = gdOf p thk in inverseOf f (gd .x) (gd .y) (gd .z)
 
@@ -52,7 +42,7 @@ module _ (f : Format) where
       let area = areaOf f (p .p0) (p .p1) (p .p2) in
       let gd = gdOf p thk in
       let gu = guOf p thk in
-      let guGu = guGuOf gu in
+      let guGu = guGuOf f gu in
       record {
         thk = thk;
         gd = gd;

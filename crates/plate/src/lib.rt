@@ -1,16 +1,12 @@
-// The numbers of `w_dw_ddw_plate_bending` (mitc_tri3.rs): energy, gradient and Hessian of a plate triangle. Each of the source's two blocks is a module; here stand
-// what both share and the sums over the points of both. An index 0, 1, 2 of the source is x, y, z here: gd[0][1] is gd.x.y.
+// The numbers of `w_dw_ddw_plate_bending` (mitc_tri3.rs): energy, gradient and Hessian of a plate triangle. The source's two blocks are the crates `plate_bending` and `plate_shear`;
+// here stand the sums over the points of both. An index 0, 1, 2 of the source is x, y, z here: gd[0][1] is gd.x.y.
 ghost use mathlib.Core.Path.{_≡_};
 ghost use Prim.Native.Nat.{_<_};
 ghost use lib.Ieee.{binary64};
 ghost use Rattle.float.specs.Lists.{table};
-ghost use Rattle.plate.specs.Plate.{gdOf, guGuOf, stateOf, column3Of, column2Of, wOf, dwOf, ddwOf};
+ghost use Rattle.plate.specs.Plate.{gdOf, stateOf, column3Of, column2Of, wOf, dwOf, ddwOf};
 ghost use Rattle.plate.specs.Parts.{columnsOf, sumOf, dwAtOf, ddwAtOf};
 
-pub mod bending;
-pub mod shear;
-
-use bending::Bending;
 use del_geo_core::curve_linear_coords;
 use del_geo_core::curve_linear_coords::DualBasis;
 use del_geo_core::mat3_row_major::Matrix3;
@@ -18,17 +14,9 @@ use del_geo_core::tri2;
 use del_geo_core::tri2::Tri2;
 use del_geo_core::tri2::V2;
 use del_geo_core::tri3::Tri3;
-use del_geo_core::vec3;
 use del_geo_core::vec3::V3;
-use shear::Shear;
-
-// The dots of the contravariant vectors.
-pub(crate) struct GuGu {
-    pub rr: f64,
-    pub ss: f64,
-    pub sr: f64,
-    pub tt: f64,
-}
+use plate_bending::Bending;
+use plate_shear::Shear;
 
 // What the energy and its derivatives are made of.
 pub struct State {
@@ -63,26 +51,15 @@ fn gd(p: Tri2, thk: f64) -> Matrix3
     Matrix3 { x, y, z }
 }
 
-fn gu_gu(gu: DualBasis) -> GuGu
-    ensures { λ r. ⌜ r ≡ guGuOf binary64 gu ⌝ }
-{
-    GuGu {
-        rr: vec3::dot(gu.x.v, gu.x.v),
-        ss: vec3::dot(gu.y.v, gu.y.v),
-        sr: vec3::dot(gu.x.v, gu.y.v),
-        tt: vec3::dot(gu.z.v, gu.z.v),
-    }
-}
-
 pub fn state_of(p: Tri2, u: Tri3, thk: f64, lambda: f64, myu: f64) -> State
     ensures { λ r. ⌜ r ≡ stateOf binary64 p u thk lambda myu ⌝ }
 {
     let area = tri2::area(p.p0, p.p1, p.p2);
     let gd = gd(p, thk);
     let gu = curve_linear_coords::inverse(gd.x, gd.y, gd.z);
-    let gu_gu = gu_gu(gu);
-    let bending = bending::bending_of(gd, gu_gu, u, area, thk, lambda, myu);
-    let shear = shear::shear_of(gd, gu_gu, u, area, thk, myu);
+    let gu_gu = edges::gu_gu(gu);
+    let bending = plate_bending::bending_of(gd, gu_gu, u, area, thk, lambda, myu);
+    let shear = plate_shear::shear_of(gd, gu_gu, u, area, thk, myu);
     State {
         thk,
         gd,
@@ -103,11 +80,11 @@ pub fn w(s: State) -> f64
     ensures { λ r. ⌜ r ≡ wOf binary64 s ⌝ }
 {
     sum(
-        bending::w(s.bending, bending::t0_first()),
-        bending::w(s.bending, bending::t0_second()),
-        shear::w(s.shear, 0.5, 0.0),
-        shear::w(s.shear, 0.5, 0.5),
-        shear::w(s.shear, 0.0, 0.5),
+        plate_bending::w(s.bending, plate_bending::t0_first()),
+        plate_bending::w(s.bending, plate_bending::t0_second()),
+        plate_shear::w(s.shear, 0.5, 0.0),
+        plate_shear::w(s.shear, 0.5, 0.5),
+        plate_shear::w(s.shear, 0.0, 0.5),
     )
 }
 
@@ -163,22 +140,22 @@ fn dw_at(s: State, d: Dstrain) -> f64
     ensures { λ r. ⌜ r ≡ dwAtOf binary64 s d ⌝ }
 {
     sum(
-        bending::dw(s.bending, bending::t0_first(), d.bending0),
-        bending::dw(s.bending, bending::t0_second(), d.bending1),
-        shear::dw(s.shear, 0.5, 0.0, d.shear0),
-        shear::dw(s.shear, 0.5, 0.5, d.shear1),
-        shear::dw(s.shear, 0.0, 0.5, d.shear2),
+        plate_bending::dw(s.bending, plate_bending::t0_first(), d.bending0),
+        plate_bending::dw(s.bending, plate_bending::t0_second(), d.bending1),
+        plate_shear::dw(s.shear, 0.5, 0.0, d.shear0),
+        plate_shear::dw(s.shear, 0.5, 0.5, d.shear1),
+        plate_shear::dw(s.shear, 0.0, 0.5, d.shear2),
     )
 }
 
 pub fn dw(s: State) -> [f64; 9]
     ensures { λ r. ⌜ r ≡ dwOf binary64 s ⌝ }
 {
-    let b0 = bending::dstrain(s.gd, s.thk, bending::t0_first());
-    let b1 = bending::dstrain(s.gd, s.thk, bending::t0_second());
-    let s0 = shear::dstrain(s.gd, s.thk, 0.5, 0.0);
-    let s1 = shear::dstrain(s.gd, s.thk, 0.5, 0.5);
-    let s2 = shear::dstrain(s.gd, s.thk, 0.0, 0.5);
+    let b0 = plate_bending::dstrain(s.gd, s.thk, plate_bending::t0_first());
+    let b1 = plate_bending::dstrain(s.gd, s.thk, plate_bending::t0_second());
+    let s0 = plate_shear::dstrain(s.gd, s.thk, 0.5, 0.0);
+    let s1 = plate_shear::dstrain(s.gd, s.thk, 0.5, 0.5);
+    let s2 = plate_shear::dstrain(s.gd, s.thk, 0.0, 0.5);
     let mut dw = [0.0; 9];
     for i in 0..9usize {
         dw[i] = dw_at(s, columns(&b0, &b1, &s0, &s1, &s2, i));
@@ -190,11 +167,11 @@ fn ddw_at(s: State, di: Dstrain, dj: Dstrain) -> f64
     ensures { λ r. ⌜ r ≡ ddwAtOf binary64 s di dj ⌝ }
 {
     sum(
-        bending::ddw(s.bending, di.bending0, dj.bending0),
-        bending::ddw(s.bending, di.bending1, dj.bending1),
-        shear::ddw(s.shear, di.shear0, dj.shear0),
-        shear::ddw(s.shear, di.shear1, dj.shear1),
-        shear::ddw(s.shear, di.shear2, dj.shear2),
+        plate_bending::ddw(s.bending, di.bending0, dj.bending0),
+        plate_bending::ddw(s.bending, di.bending1, dj.bending1),
+        plate_shear::ddw(s.shear, di.shear0, dj.shear0),
+        plate_shear::ddw(s.shear, di.shear1, dj.shear1),
+        plate_shear::ddw(s.shear, di.shear2, dj.shear2),
     )
 }
 
@@ -203,11 +180,11 @@ fn ddw_last(s: State, di: Dstrain, dj: Dstrain) -> f64
     ensures { λ r. ⌜ r ≡ ddwAtOf binary64 s di dj ⌝ }
 {
     sum(
-        bending::ddw(s.bending, di.bending0, dj.bending0),
-        bending::ddw(s.bending, di.bending1, dj.bending1),
-        shear::ddw(s.shear, di.shear0, dj.shear0),
-        shear::ddw(s.shear, di.shear1, dj.shear1),
-        shear::ddw(s.shear, di.shear2, dj.shear2),
+        plate_bending::ddw(s.bending, di.bending0, dj.bending0),
+        plate_bending::ddw(s.bending, di.bending1, dj.bending1),
+        plate_shear::ddw(s.shear, di.shear0, dj.shear0),
+        plate_shear::ddw(s.shear, di.shear1, dj.shear1),
+        plate_shear::ddw(s.shear, di.shear2, dj.shear2),
     )
 }
 
@@ -238,11 +215,11 @@ fn row(
 pub fn ddw(s: State) -> [f64; 81]
     ensures { λ r. ⌜ r ≡ ddwOf binary64 s ⌝ }
 {
-    let b0 = bending::dstrain(s.gd, s.thk, bending::t0_first());
-    let b1 = bending::dstrain(s.gd, s.thk, bending::t0_second());
-    let s0 = shear::dstrain(s.gd, s.thk, 0.5, 0.0);
-    let s1 = shear::dstrain(s.gd, s.thk, 0.5, 0.5);
-    let s2 = shear::dstrain(s.gd, s.thk, 0.0, 0.5);
+    let b0 = plate_bending::dstrain(s.gd, s.thk, plate_bending::t0_first());
+    let b1 = plate_bending::dstrain(s.gd, s.thk, plate_bending::t0_second());
+    let s0 = plate_shear::dstrain(s.gd, s.thk, 0.5, 0.0);
+    let s1 = plate_shear::dstrain(s.gd, s.thk, 0.5, 0.5);
+    let s2 = plate_shear::dstrain(s.gd, s.thk, 0.0, 0.5);
     let mut ddw = [0.0; 81];
     for i in 0..9usize {
         let row = row(s, &b0, &b1, &s0, &s1, &s2, i);

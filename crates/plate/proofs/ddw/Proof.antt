@@ -8,8 +8,8 @@ use lib.ListN.{replicate}
 use Rattle.float.specs.Lists.{_!_, each, fold, table}
 use Rattle.float.specs.Ops.{ops}
 use Rattle.float.proofs.Fill.{run, rows, run-more, rows-more}
-use Rattle.plate.specs.Bending.{t0s}
-use Rattle.plate.specs.Shear.{rs, ss}
+use Rattle.plate_bending.specs.Bending.{t0s}
+use Rattle.plate_shear.specs.Shear.{rs, ss}
 use Rattle.plate.specs.Plate.{accumulatedOf, ddwOf}
 use Rattle.plate.specs.Parts.{columnsOf, ddwAtOf}
 use Rattle.plate.specs.declared.Dstrain.{Dstrain}
