@@ -8,8 +8,8 @@ use lib.Dec.{eqb}
 use lib.Ieee.{Float, Format}
 use Rattle.refusal.specs.Refusal.{accepted}
 use Rattle.refusal.specs.declared.Energy.{Energy}
-use Rattle.del_geo_core.specs.Tri2 as tri2
-use Rattle.del_geo_core.specs.Tri3 as tri3
+use Rattle.corners.specs.Plane as plane
+use Rattle.corners.specs.Space as space
 use Rattle.quadratic_bending.specs.Bending as bending
 use Rattle.quadratic_bending.specs.declared.Bending.{Bending}
 use Rattle.stvk_tri3.specs.GreenLagrange.{greenLagrangeOf}
@@ -38,19 +38,19 @@ module _ (f : Format) where
 
   -- THE statement of `stvk_tri3_wdw` (01-scope 5.4)
   abbrev pub IsStrainExport : (pIni pDef : List (List Float)) (r : ℕ) (values : List Float) → Type 0
-  IsStrainExport pIni pDef = GivesStrain (strain.portedOf f (tri2.cornersOf pIni) (tri3.cornersOf pDef))
+  IsStrainExport pIni pDef = GivesStrain (strain.portedOf f (plane.cornersOf pIni) (space.cornersOf pDef))
 
   -- THE statement of `stvk_tri3_wdw_green_lagrange` (01-scope 5.10)
   abbrev pub IsGreenLagrangeExport : (pIni pDef : List (List Float)) (r : ℕ) (values : List Float) → Type 0
-  IsGreenLagrangeExport pIni pDef = GivesStrain (greenLagrangeOf f (tri2.cornersOf pIni) (tri3.cornersOf pDef))
+  IsGreenLagrangeExport pIni pDef = GivesStrain (greenLagrangeOf f (plane.cornersOf pIni) (space.cornersOf pDef))
 
   -- THE statement of `stvk_tri3_wdwddw_` (01-scope 5.5)
   abbrev pub IsStvkExport : (p0 p1 : List (List Float)) (lambda myu : Float) (r : ℕ) (values : List Float) → Type 0
-  IsStvkExport p0 p1 lambda myu = GivesEnergy (stvkOf f (tri3.cornersOf p0) (tri3.cornersOf p1) lambda myu)
+  IsStvkExport p0 p1 lambda myu = GivesEnergy (stvkOf f (space.cornersOf p0) (space.cornersOf p1) lambda myu)
 
   -- THE statement of `mitc_tri3_w_dw_ddw_plate_bending` (01-scope 5.2)
   abbrev pub IsPlateExport : (p u : List (List Float)) (thk lambda myu : Float) (r : ℕ) (values : List Float) → Type 0
-  IsPlateExport p u thk lambda myu = GivesEnergy (plateOf f (tri2.cornersOf p) (tri3.cornersOf u) thk lambda myu)
+  IsPlateExport p u thk lambda myu = GivesEnergy (plateOf f (plane.cornersOf p) (space.cornersOf u) thk lambda myu)
 
   -- THE statement of `skin_wdw` (01-scope 5.8, 2.5): the number, the place and the energy are those of skin's own answer
   abbrev pub IsSkinExport : (vtx2ini vtx2def : List Float) (tri2vtx : List ℕ) (lambda myu : Float) (before : List Float) (r place : ℕ) (w : Float) (after : List Float) → Type 0

@@ -1,44 +1,19 @@
 -- No second answer fits a helper's statement: each is an equation with its definition.
 use mathlib.Core.Path.{_≡_}
-use mathlib.Core.Bool.{Bool}
-use mathlib.Core.List.{List}
 use lib.Ieee.{Float, Format}
 use Rattle.float.proofs.Unique.{only}
 use Rattle.del_geo_core.specs.declared.vec3.V3.{V3}
 use Rattle.del_geo_core.specs.declared.vec3.Divided.{Divided}
 use Rattle.del_geo_core.specs.declared.tri2.V2.{V2}
-use Rattle.del_geo_core.specs.declared.tri2.Tri2.{Tri2}
-use Rattle.del_geo_core.specs.declared.tri3.Tri3.{Tri3}
 use Rattle.del_geo_core.specs.declared.tri3.NormalArea.{NormalArea}
 use Rattle.del_geo_core.specs.declared.curve_linear_coords.DualBasis.{DualBasis}
 use Rattle.del_geo_core.specs.declared.mat3_row_major.Matrix3.{Matrix3}
-use Rattle.del_geo_core.specs.Vec3.{dotOf, crossOf, subOf, scaleOf, normOf, overOf, unitOf, normalizeOf, isFiniteOf, pointOf}
+use Rattle.del_geo_core.specs.Vec3.{dotOf, crossOf, subOf, scaleOf, normOf, overOf, unitOf, normalizeOf}
 use Rattle.del_geo_core.specs.Tri2 as tri2
 use Rattle.del_geo_core.specs.Tri3 as tri3
 use Rattle.del_geo_core.specs.Edge.{lengthOf}
 use Rattle.del_geo_core.specs.CurveLinearCoords.{contravariantOf, inverseOf}
 use Rattle.del_geo_core.specs.Mat3RowMajor.{multVecOf}
-
-pub point : (a : List Float) {r q : V3} → r ≡ pointOf a → q ≡ pointOf a → r ≡ q
-point a = only
-
-pub is-finite : (a : V3) {r q : Bool} → r ≡ isFiniteOf a → q ≡ isFiniteOf a → r ≡ q
-is-finite a = only
-
-pub plane-point : (a : List Float) {r q : V2} → r ≡ tri2.pointOf a → q ≡ tri2.pointOf a → r ≡ q
-plane-point a = only
-
-pub plane-corners : (p : List (List Float)) {r q : Tri2} → r ≡ tri2.cornersOf p → q ≡ tri2.cornersOf p → r ≡ q
-plane-corners p = only
-
-pub plane-is-finite : (p : Tri2) {r q : Bool} → r ≡ tri2.isFiniteOf p → q ≡ tri2.isFiniteOf p → r ≡ q
-plane-is-finite p = only
-
-pub space-corners : (p : List (List Float)) {r q : Tri3} → r ≡ tri3.cornersOf p → q ≡ tri3.cornersOf p → r ≡ q
-space-corners p = only
-
-pub space-is-finite : (p : Tri3) {r q : Bool} → r ≡ tri3.isFiniteOf p → q ≡ tri3.isFiniteOf p → r ≡ q
-space-is-finite p = only
 
 module _ (f : Format) where
   pub dot : (a b : V3) {r q : Float} → r ≡ dotOf f a b → q ≡ dotOf f a b → r ≡ q

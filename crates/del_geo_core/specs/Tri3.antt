@@ -1,20 +1,9 @@
--- A triangle in space: its corners from nested lists (01-scope 12), its area and unit normal (01-scope 3.2: space area, unit normal and area).
-use mathlib.Core.Bool.{Bool, _&&_}
-use mathlib.Core.List.{List}
+-- A triangle in space: its area and unit normal (01-scope 3.2: space area, unit normal and area).
 use lib.Ieee.{Float, Format}
-use Rattle.float.specs.Lists.{_!!_}
 use Rattle.float.specs.Ops.{Ops, ops}
 use Rattle.del_geo_core.specs.declared.vec3.V3.{V3}
-use Rattle.del_geo_core.specs.declared.tri3.Tri3.{Tri3}
 use Rattle.del_geo_core.specs.declared.tri3.NormalArea.{NormalArea}
-use Rattle.del_geo_core.specs.Vec3 as vec3
-use Rattle.del_geo_core.specs.Vec3.{pointOf, crossOf, subOf, normOf, unitOf}
-
-abbrev pub cornersOf : List (List Float) → Tri3
-cornersOf p = record { p0 = pointOf (p !! 0); p1 = pointOf (p !! 1); p2 = pointOf (p !! 2) }
-
-unfoldable pub isFiniteOf : Tri3 → Bool
-isFiniteOf p = vec3.isFiniteOf (p .p0) && vec3.isFiniteOf (p .p1) && vec3.isFiniteOf (p .p2)
+use Rattle.del_geo_core.specs.Vec3.{crossOf, subOf, normOf, unitOf}
 
 module _ (f : Format) where
   open Ops (ops f) using (_⊗_, half)

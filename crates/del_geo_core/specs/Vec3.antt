@@ -1,21 +1,9 @@
 -- Vectors of three numbers, over the format (01-scope 3.2: dot, cross, sub, scale, norm, normalize).
-use mathlib.Core.Bool.{Bool, _&&_}
-use mathlib.Core.List.{List}
 use lib.Ieee.{Float, Format}
-use lib.Ieee.Scale.{finite}
-use Rattle.float.specs.Lists.{_!_}
 use Rattle.float.specs.Ops.{Ops, ops}
 use Rattle.root.specs.Root.{rootOf}
 use Rattle.del_geo_core.specs.declared.vec3.V3.{V3}
 use Rattle.del_geo_core.specs.declared.vec3.Divided.{Divided}
-
--- a row of nested lists (01-scope 12)
-abbrev pub pointOf : List Float → V3
-pointOf a = record { x = a ! 0; y = a ! 1; z = a ! 2 }
-
--- a test that a kernel makes of its corners (01-scope 2.1: 3)
-unfoldable pub isFiniteOf : V3 → Bool
-isFiniteOf a = finite (a .x) && finite (a .y) && finite (a .z)
 
 module _ (f : Format) where
   open Ops (ops f) using (_⊕_, _⊖_, _⊗_, _⊘_, one)

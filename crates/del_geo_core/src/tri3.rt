@@ -1,7 +1,7 @@
 // Triangles in space.
 ghost use mathlib.Core.Path.{_≡_};
 ghost use lib.Ieee.{binary64};
-ghost use Rattle.del_geo_core.specs.Tri3.{cornersOf, isFiniteOf, normalOf, areaOf, unitNormalAreaOf};
+ghost use Rattle.del_geo_core.specs.Tri3.{normalOf, areaOf, unitNormalAreaOf};
 use crate::vec3;
 use crate::vec3::Divided;
 use crate::vec3::V3;
@@ -16,22 +16,6 @@ pub struct Tri3 {
 pub struct NormalArea {
     pub normal: Divided,
     pub area: f64,
-}
-
-pub fn corners(p: [[f64; 3]; 3]) -> Tri3
-    ensures { λ r. ⌜ r ≡ cornersOf p ⌝ }
-{
-    let p0 = vec3::point(p[0]);
-    let p1 = vec3::point(p[1]);
-    let p2 = vec3::point(p[2]);
-    Tri3 { p0, p1, p2 }
-}
-
-// Whether all nine numbers are finite.
-pub fn is_finite(p: Tri3) -> bool
-    ensures { λ r. ⌜ r ≡ isFiniteOf p ⌝ }
-{
-    vec3::is_finite(p.p0) & vec3::is_finite(p.p1) & vec3::is_finite(p.p2)
 }
 
 // Across the edges from p0: twice the area long.

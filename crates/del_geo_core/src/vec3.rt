@@ -1,7 +1,7 @@
 // Vectors of three numbers.
 ghost use mathlib.Core.Path.{_≡_};
 ghost use lib.Ieee.{binary64};
-ghost use Rattle.del_geo_core.specs.Vec3.{pointOf, isFiniteOf, dotOf, crossOf, subOf, scaleOf, normOf, overOf, unitOf, normalizeOf};
+ghost use Rattle.del_geo_core.specs.Vec3.{dotOf, crossOf, subOf, scaleOf, normOf, overOf, unitOf, normalizeOf};
 
 pub struct V3 {
     pub x: f64,
@@ -13,17 +13,6 @@ pub struct V3 {
 pub struct Divided {
     pub v: V3,
     pub by: f64,
-}
-
-// A row of nested arrays as a point.
-pub fn point(a: [f64; 3]) -> V3
-    ensures { λ r. ⌜ r ≡ pointOf a ⌝ }
-{
-    V3 {
-        x: a[0],
-        y: a[1],
-        z: a[2],
-    }
 }
 
 pub fn dot(a: V3, b: V3) -> f64
@@ -87,11 +76,4 @@ pub fn normalize(a: V3) -> V3
     ensures { λ r. ⌜ r ≡ normalizeOf binary64 a ⌝ }
 {
     unit(a).v
-}
-
-// Whether all three numbers are finite.
-pub fn is_finite(a: V3) -> bool
-    ensures { λ r. ⌜ r ≡ isFiniteOf a ⌝ }
-{
-    float::is_finite(a.x) & float::is_finite(a.y) & float::is_finite(a.z)
 }

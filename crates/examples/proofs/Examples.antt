@@ -12,7 +12,8 @@ use Rattle.refusal.specs.declared.Energy.{Energy}
 use Rattle.places.specs.Places.{addVertex, addTriangle}
 use Rattle.places.specs.Plane.{cornersAt, namedFinite}
 use Rattle.del_geo_core.specs.Vec3 as vec3
-use Rattle.del_geo_core.specs.Tri2 as tri2
+use Rattle.corners.specs.Plane as plane
+use Rattle.corners.specs.Space as space
 use Rattle.del_geo_core.specs.Tri3 as tri3
 use Rattle.del_geo_core.specs.Edge as edge
 use Rattle.del_geo_core.specs.CurveLinearCoords as coords
@@ -34,19 +35,19 @@ use Rattle.examples.specs.Table.{Hold, p, u, plate, p0, p1, stvk, tableO
 
 -- Examples 8 and 9 take all 91 values for the number alone, and each value takes the number: so the number is computed once, and then put in its place.
 plate-accepted : plate +2 .number ≡ accepted
-unfolding plate sub mul div ofBits every tabled each fold rootOf firstOf kernelNumber badEnergyOf energyOf vec3.isFiniteOf vec3.overOf tri2.isFiniteOf tri3.isFiniteOf coords.contravariantOf
+unfolding plate sub mul div ofBits every tabled each fold rootOf firstOf kernelNumber badEnergyOf energyOf vec3.overOf plane.isFiniteOf space.isFiniteOf coords.contravariantOf
     coords.inverseOf mat3.multVecOf bend.bendingOf bend.t0s bend.dstrainOf bend.wOf bend.dwOf bend.ddwOf
     shear.shearOf shear.rs shear.ss shear.dstrainOf shear.wOf shear.dwOf shear.ddwOf
     plates.gdOf edges.guGuOf plates.guOf plates.stateOf plates.accumulatedOf plates.wOf plates.dwOf plates.ddwOf edges.planeOf zeroDivisorOf mitc.badInputOf plates.wDwDdwPlateBendingOf mitc.testsOf mitc.plateOf
 plate-accepted = refl
 
 plate-refused : plate +0 .number ≡ zeroDivisor
-unfolding plate sub mul div ofBits firstOf kernelNumber energyOf vec3.isFiniteOf vec3.overOf tri2.isFiniteOf tri3.isFiniteOf coords.contravariantOf coords.inverseOf plates.gdOf plates.guOf
+unfolding plate sub mul div ofBits firstOf kernelNumber energyOf vec3.overOf plane.isFiniteOf space.isFiniteOf coords.contravariantOf coords.inverseOf plates.gdOf plates.guOf
     plates.stateOf edges.planeOf zeroDivisorOf mitc.badInputOf plates.wDwDdwPlateBendingOf mitc.testsOf mitc.plateOf
 plate-refused = refl
 
 stvk-accepted : stvk .number ≡ accepted
-unfolding stvk sub mul div ofBits every tabled each rootOf firstOf kernelNumber badEnergyOf energyOf vec3.isFiniteOf vec3.normOf vec3.overOf vec3.unitOf tri3.isFiniteOf tri3.normalOf
+unfolding stvk sub mul div ofBits every tabled each rootOf firstOf kernelNumber badEnergyOf energyOf vec3.normOf vec3.overOf vec3.unitOf space.isFiniteOf tri3.normalOf
     tri3.unitNormalAreaOf coords.contravariantOf mat3.multVecOf edges.spaceOf edges.glstrainOf zeroDivisorOf energy.atOf energy.alongOf energy.restOf energy.glstrainOf
     energy.gugu0Of energy.elasticityTensorOf energy.stateOf energy.wOf energy.dNdrOf energy.dwAtOf energy.dwOf energy.dtmp0Of energy.rowOf energy.blockOf energy.ddwOf
     energy.wdwddwOf stvks.badInputOf stvks.testsOf stvks.stvkOf
@@ -71,8 +72,8 @@ unfolding stvk stvks.stvkOf energy.wdwddwOf energyOf
 stvk-as is = ap stvkAs is
 
 numbers-given : Hold (tableOf (plateAs +2 accepted) (plateAs +0 zeroDivisor) (stvkAs accepted))
-unfolding tableOf sub mul div ofBits toBits every tabled each fold foldThrees rootOf rootWordOf firstOf kernelNumber energyOf withinLimits vec3.isFiniteOf vec3.normOf vec3.overOf vec3.unitOf
-    tri2.isFiniteOf tri3.isFiniteOf tri3.normalOf tri3.areaOf tri3.unitNormalAreaOf edge.lengthOf coords.contravariantOf coords.inverseOf mat3.multVecOf
+unfolding tableOf sub mul div ofBits toBits every tabled each fold foldThrees rootOf rootWordOf firstOf kernelNumber energyOf withinLimits vec3.normOf vec3.overOf vec3.unitOf
+    plane.isFiniteOf space.isFiniteOf tri3.normalOf tri3.areaOf tri3.unitNormalAreaOf edge.lengthOf coords.contravariantOf coords.inverseOf mat3.multVecOf
     bend.bendingOf bend.t0s bend.wOf shear.shearOf shear.rs shear.ss shear.wOf plates.gdOf
     edges.guGuOf plates.guOf plates.stateOf plates.accumulatedOf plates.wOf addVertex addTriangle cornersAt badLengthOf namedFinite badInputOf massOf addMasses addAll massesOf
     numberOf bufferOf leftOf zeroDivisorOf edges.planeOf edges.spaceOf edges.glstrainOf strain.restOf strain.gugu0Of strain.wOf strain.hogeOf strain.dwKOf strain.dwOf strain.valuesOf strain.restOfGreenLagrange strains.testedOf strains.testsOf strains.strainOf strains.answerOf energy.atOf energy.alongOf

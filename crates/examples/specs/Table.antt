@@ -8,8 +8,8 @@ use lib.ListN.{replicate}
 use Rattle.float.specs.Lists.{_!_, total}
 use Rattle.root.specs.Root.{rootWordOf}
 use Rattle.refusal.specs.declared.Energy.{Energy}
-use Rattle.del_geo_core.specs.Tri2 as tri2
-use Rattle.del_geo_core.specs.Tri3 as tri3
+use Rattle.corners.specs.Plane as plane
+use Rattle.corners.specs.Space as space
 use Rattle.del_geo_core.specs.declared.tri2.Tri2.{Tri2}
 use Rattle.del_geo_core.specs.declared.tri3.Tri3.{Tri3}
 use Rattle.mitc_tri3.specs.Example.{points, thick, rho}
@@ -57,21 +57,21 @@ root x = rootWordOf binary64 x ∷ []
 
 -- the triangle of 8 and 10
 abbrev pub p : Tri2
-p = tri2.cornersOf (doubles (+0 ∷ +0 ∷ []) ∷ doubles (+1 ∷ +0 ∷ []) ∷ doubles (+0 ∷ +1 ∷ []) ∷ [])
+p = plane.cornersOf (doubles (+0 ∷ +0 ∷ []) ∷ doubles (+1 ∷ +0 ∷ []) ∷ doubles (+0 ∷ +1 ∷ []) ∷ [])
 
 -- 8, only corner 1 is moved in z: of its three numbers in u the first is the displacement, the others turn it
 abbrev pub u : Tri3
-u = tri3.cornersOf (doubles (+0 ∷ +0 ∷ +0 ∷ []) ∷ doubles (+1 ∷ +0 ∷ +0 ∷ []) ∷ doubles (+0 ∷ +0 ∷ +0 ∷ []) ∷ [])
+u = space.cornersOf (doubles (+0 ∷ +0 ∷ +0 ∷ []) ∷ doubles (+1 ∷ +0 ∷ +0 ∷ []) ∷ doubles (+0 ∷ +0 ∷ +0 ∷ []) ∷ [])
 
 unfoldable pub plate : (thk : ℕ) → Energy
 plate thk = plateOf binary64 p u (double thk) (double +0) (double +1)
 
 -- the sheet of 9 at rest in space, and pulled to twice its length in x, as in 10
 abbrev pub p0 : Tri3
-p0 = tri3.cornersOf (doubles (+0 ∷ +0 ∷ +0 ∷ []) ∷ doubles (+1 ∷ +0 ∷ +0 ∷ []) ∷ doubles (+0 ∷ +1 ∷ +0 ∷ []) ∷ [])
+p0 = space.cornersOf (doubles (+0 ∷ +0 ∷ +0 ∷ []) ∷ doubles (+1 ∷ +0 ∷ +0 ∷ []) ∷ doubles (+0 ∷ +1 ∷ +0 ∷ []) ∷ [])
 
 abbrev pub p1 : Tri3
-p1 = tri3.cornersOf (doubles (+0 ∷ +0 ∷ +0 ∷ []) ∷ doubles (+2 ∷ +0 ∷ +0 ∷ []) ∷ doubles (+0 ∷ +1 ∷ +0 ∷ []) ∷ [])
+p1 = space.cornersOf (doubles (+0 ∷ +0 ∷ +0 ∷ []) ∷ doubles (+2 ∷ +0 ∷ +0 ∷ []) ∷ doubles (+0 ∷ +1 ∷ +0 ∷ []) ∷ [])
 
 unfoldable pub stvk : Energy
 stvk = stvkOf binary64 p0 p1 (double +0) (double +1)
@@ -81,10 +81,10 @@ strains = strain.portedOf binary64 p p1
 
 -- 14 and 15: both strains of one sheet
 abbrev ported : Strain
-ported = strain.portedOf binary64 (tri2.cornersOf atRest) (tri3.cornersOf pulled)
+ported = strain.portedOf binary64 (plane.cornersOf atRest) (space.cornersOf pulled)
 
 abbrev book : Strain
-book = greenLagrangeOf binary64 (tri2.cornersOf atRest) (tri3.cornersOf pulled)
+book = greenLagrangeOf binary64 (plane.cornersOf atRest) (space.cornersOf pulled)
 
 abbrev bends : Bending
 bends =

@@ -10,8 +10,8 @@ use Rattle.refusal.specs.Refusal.{firstOf, kernelNumber}
 use Rattle.refusal.specs.Answers.{zeroDivisorOf}
 use Rattle.rounding.specs.Exact.{mag, sign, value}
 use Rattle.rounding.specs.Whole.{isWholeUpTo, isNatural}
-use Rattle.del_geo_core.specs.Tri2 as tri2
-use Rattle.del_geo_core.specs.Tri3 as tri3
+use Rattle.corners.specs.Plane as plane
+use Rattle.corners.specs.Space as space
 use Rattle.del_geo_core.specs.Vec3 as vec3
 use Rattle.edges.specs.Edges as edges
 use Rattle.strain.specs.Strain as strain
@@ -22,18 +22,18 @@ use Rattle.green_lagrange.specs.Book.{IsBookStrain}
 use Rattle.green_lagrange.specs.Sheet.{isRest, isWhole}
 use Rattle.green_lagrange.proofs.Theorem.{green-lagrange}
 
-at-rest : isRest binary64 2 1 (tri2.cornersOf atRest) ≡ true
+at-rest : isRest binary64 2 1 (plane.cornersOf atRest) ≡ true
 unfolding isNatural fits value mag sign
 at-rest = refl
 
-whole : isWhole binary64 1024 (tri3.cornersOf pulled) ≡ true
+whole : isWhole binary64 1024 (space.cornersOf pulled) ≡ true
 unfolding isWholeUpTo fits mag sign
 whole = refl
 
-pub met : IsBookStrain binary64 2 1 (tri3.cornersOf pulled) (greenLagrangeOf binary64 (tri2.cornersOf atRest) (tri3.cornersOf pulled))
+pub met : IsBookStrain binary64 2 1 (space.cornersOf pulled) (greenLagrangeOf binary64 (plane.cornersOf atRest) (space.cornersOf pulled))
 met = green-lagrange 1 0 (lit≤ tt) (lit≤ tt) atRest pulled refl at-rest whole
 
-pub not-ported : IsBookStrain binary64 2 1 (tri3.cornersOf pulled) (portedOf binary64 (tri2.cornersOf atRest) (tri3.cornersOf pulled)) → ⊥
-unfolding value mag sign sub mul div ofBits every rootOf firstOf kernelNumber zeroDivisorOf vec3.isFiniteOf vec3.normOf vec3.overOf vec3.unitOf tri2.isFiniteOf tri3.isFiniteOf edges.planeOf edges.spaceOf
+pub not-ported : IsBookStrain binary64 2 1 (space.cornersOf pulled) (portedOf binary64 (plane.cornersOf atRest) (space.cornersOf pulled)) → ⊥
+unfolding value mag sign sub mul div ofBits every rootOf firstOf kernelNumber zeroDivisorOf vec3.normOf vec3.overOf vec3.unitOf plane.isFiniteOf space.isFiniteOf edges.planeOf edges.spaceOf
     edges.glstrainOf strain.restOf strain.gugu0Of strain.wOf strain.hogeOf strain.dwKOf strain.dwOf strain.valuesOf testedOf testsOf strainOf answerOf
 not-ported h = false≢true (eq-eqb _ _ (h .xx .same .is))

@@ -13,8 +13,8 @@ use Rattle.float.proofs.Scan.{every-append}
 use Rattle.refusal.specs.Refusal.{accepted}
 use Rattle.rounding.specs.Exact.{Num, Equal, _⊞_, _⊟_, _⊠_, scale, signed}
 use Rattle.rounding.specs.Whole.{unit}
-use Rattle.del_geo_core.specs.Tri2 as tri2
-use Rattle.del_geo_core.specs.Tri3 as tri3
+use Rattle.corners.specs.Plane as plane
+use Rattle.corners.specs.Space as space
 use Rattle.del_geo_core.specs.Vec3 as vec3
 use Rattle.del_geo_core.specs.declared.tri2.Tri2.{Tri2}
 use Rattle.del_geo_core.specs.declared.tri3.Tri3.{Tri3}
@@ -45,12 +45,12 @@ third : (u d : ℕ) (v p q r : Num) → Equal (scale d v) (scale u (p ⊠ none �
 third u d v p q r e = omega (arith, e)
 
 module _ (f : Format) {i j B S : ℕ} (m : Margins f i j B S) (pIni pDef : List (List Float)) {r : Strain} (is : IsGreenLagrange f pIni pDef r)
-    (rest : isRest f (2 ^ i) (2 ^ j) (tri2.cornersOf pIni) ≡ true) (deformed : isWhole f B (tri3.cornersOf pDef) ≡ true) where
+    (rest : isRest f (2 ^ i) (2 ^ j) (plane.cornersOf pIni) ≡ true) (deformed : isWhole f B (space.cornersOf pDef) ≡ true) where
   abbrev ini : Tri2
-  ini = tri2.cornersOf pIni
+  ini = plane.cornersOf pIni
 
   abbrev def : Tri3
-  def = tri3.cornersOf pDef
+  def = space.cornersOf pDef
 
   abbrev a : ℕ
   a = 2 ^ i
@@ -82,8 +82,8 @@ module _ (f : Format) {i j B S : ℕ} (m : Margins f i j B S) (pIni pDef : List 
   z : Component f m ini rest def deformed (gugu0 f ini .xy) eZ (a * b)
   z = xy f m ini rest def deformed
 
-  inputs-good : not (tri2.isFiniteOf ini && tri3.isFiniteOf def) ≡ false
-  unfolding tri2.isFiniteOf tri3.isFiniteOf vec3.isFiniteOf
+  inputs-good : not (plane.isFiniteOf ini && space.isFiniteOf def) ≡ false
+  unfolding plane.isFiniteOf space.isFiniteOf
   inputs-good =
       let p = points f i j (m .small) ini rest in
       let c = corners f B def deformed in
@@ -144,6 +144,6 @@ margins h k = record {
 }
 
 pub green-lagrange : (i j : ℕ) → i ≤ 10 → j ≤ 10 → (pIni pDef : List (List Float)) {r : Strain} → IsGreenLagrange binary64 pIni pDef r
-    → isRest binary64 (2 ^ i) (2 ^ j) (tri2.cornersOf pIni) ≡ true → isWhole binary64 1024 (tri3.cornersOf pDef) ≡ true
-    → IsBookStrain binary64 (2 ^ i) (2 ^ j) (tri3.cornersOf pDef) r
+    → isRest binary64 (2 ^ i) (2 ^ j) (plane.cornersOf pIni) ≡ true → isWhole binary64 1024 (space.cornersOf pDef) ≡ true
+    → IsBookStrain binary64 (2 ^ i) (2 ^ j) (space.cornersOf pDef) r
 green-lagrange i j h k pIni pDef is rest deformed = book binary64 (margins h k) pIni pDef is rest deformed

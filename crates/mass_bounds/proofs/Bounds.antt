@@ -18,7 +18,8 @@ use Rattle.refusal.proofs.Panel.{sized}
 use Rattle.rounding.specs.Whole.{isNumber}
 use Rattle.rounding.proofs.Whole.{number-iff}
 use Rattle.mitc_tri3.specs.Example.{points, thick, rho}
-use Rattle.places.specs.Plane.{verticesOf, pointAt, pointFinite, namedFinite}
+use Rattle.places.specs.Plane.{verticesOf, pointAt, namedFinite}
+use Rattle.corners.specs.Plane.{pointFinite}
 use Rattle.masses.specs.Masses.{massesOf}
 use Rattle.masses.specs.Vertex.{trianglesOf, shareOf}
 use Rattle.masses.proofs.Vertex.{masses-sized, masses-hold}

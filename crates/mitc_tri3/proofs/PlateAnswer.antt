@@ -9,8 +9,8 @@ use Rattle.refusal.specs.Refusal.{accepted, kernelRows, Exactly}
 use Rattle.refusal.specs.declared.Energy.{Energy}
 use Rattle.refusal.specs.declared.Tests.{Tests}
 use Rattle.refusal.proofs.EnergyAnswer as energy
-use Rattle.del_geo_core.specs.Tri2 as tri2
-use Rattle.del_geo_core.specs.Tri3 as tri3
+use Rattle.corners.specs.Plane as plane
+use Rattle.corners.specs.Space as space
 use Rattle.plate.specs.Plate.{wDwDdwPlateBendingOf}
 use Rattle.mitc_tri3.specs.Plate.{testsOf, plateOf, IsPlate}
 
@@ -22,7 +22,7 @@ module _ (f : Format) (p u : List (List Float)) (thk lambda myu : Float) where
   unique = only
 
   abbrev tests : Tests
-  tests = testsOf f (tri2.cornersOf p) (tri3.cornersOf u) thk lambda myu
+  tests = testsOf f (plane.cornersOf p) (space.cornersOf u) thk lambda myu
 
   module _ {r : Energy} (is : IsPlate f p u thk lambda myu r) where
     pub numbers-exactly : Exactly (r .number) (kernelRows tests)
@@ -35,7 +35,7 @@ module _ (f : Format) (p u : List (List Float)) (thk lambda myu : Float) where
     refused-values = energy.refused-values f tests _ _ _ is
 
     -- and where nothing is refused they are what the source returns
-    pub accepted-values : r .number ≡ accepted → let (w, dw, ddw) = wDwDdwPlateBendingOf f (tri2.cornersOf p) (tri3.cornersOf u) thk lambda myu in
+    pub accepted-values : r .number ≡ accepted → let (w, dw, ddw) = wDwDdwPlateBendingOf f (plane.cornersOf p) (space.cornersOf u) thk lambda myu in
         (r .w ≡ w) × (r .dw ≡ dw) × (r .ddw ≡ ddw)
     unfolding plateOf
     accepted-values = energy.accepted-values f tests _ _ _ is

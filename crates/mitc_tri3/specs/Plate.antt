@@ -8,15 +8,15 @@ use Rattle.refusal.specs.Refusal.{kernelNumber}
 use Rattle.refusal.specs.Answers.{zeroDivisorOf, badEnergyOf, energyOf}
 use Rattle.refusal.specs.declared.Energy.{Energy}
 use Rattle.refusal.specs.declared.Tests.{Tests}
-use Rattle.del_geo_core.specs.Tri2 as tri2
-use Rattle.del_geo_core.specs.Tri3 as tri3
+use Rattle.corners.specs.Plane as plane
+use Rattle.corners.specs.Space as space
 use Rattle.del_geo_core.specs.declared.tri2.Tri2.{Tri2}
 use Rattle.del_geo_core.specs.declared.tri3.Tri3.{Tri3}
 use Rattle.plate.specs.Plate.{stateOf, wDwDdwPlateBendingOf}
 
 -- a number that is looked at is not finite (01-scope 2.1: 3)
 unfoldable pub badInputOf : (p : Tri2) (u : Tri3) (thk lambda myu : Float) → Bool
-badInputOf p u thk lambda myu = not (tri2.isFiniteOf p && tri3.isFiniteOf u && finite thk && finite lambda && finite myu)
+badInputOf p u thk lambda myu = not (plane.isFiniteOf p && space.isFiniteOf u && finite thk && finite lambda && finite myu)
 
 module _ (f : Format) where
   -- what is refused (01-scope 2.1); the divisors are the three dots of the inverse
@@ -39,4 +39,4 @@ module _ (f : Format) where
 
   -- THE statement of `w_dw_ddw_plate_bending`
   abbrev pub IsPlate : (p u : List (List Float)) (thk lambda myu : Float) (r : Energy) → Type 0
-  IsPlate p u thk lambda myu r = r ≡ plateOf (tri2.cornersOf p) (tri3.cornersOf u) thk lambda myu
+  IsPlate p u thk lambda myu r = r ≡ plateOf (plane.cornersOf p) (space.cornersOf u) thk lambda myu

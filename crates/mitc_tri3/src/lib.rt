@@ -6,9 +6,9 @@ ghost use Rattle.mitc_tri3.specs.Plate.{badInputOf, IsPlate};
 
 mod panel;
 
-use del_geo_core::tri2;
+use corners::plane;
+use corners::space;
 use del_geo_core::tri2::Tri2;
-use del_geo_core::tri3;
 use del_geo_core::tri3::Tri3;
 use refusal::ACCEPTED;
 use refusal::BAD_ANSWER;
@@ -21,8 +21,8 @@ use refusal::Tests;
 fn bad_input(p: Tri2, u: Tri3, thk: f64, lambda: f64, myu: f64) -> bool
     ensures { λ r. ⌜ r ≡ badInputOf p u thk lambda myu ⌝ }
 {
-    !(tri2::is_finite(p)
-        & tri3::is_finite(u)
+    !(plane::is_finite(p)
+        & space::is_finite(u)
         & float::is_finite(thk)
         & float::is_finite(lambda)
         & float::is_finite(myu))
@@ -39,8 +39,8 @@ pub fn w_dw_ddw_plate_bending(
 ) -> Energy
     ensures { λ r. ⌜ IsPlate binary64 p u thk lambda myu r ⌝ }
 {
-    let p = tri2::corners(p);
-    let u = tri3::corners(u);
+    let p = plane::corners(p);
+    let u = space::corners(u);
     let s = plate::state_of(p, u, thk, lambda, myu);
     let w = plate::w(s);
     let dw = plate::dw(s);

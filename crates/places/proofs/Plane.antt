@@ -12,7 +12,8 @@ use Rattle.float.specs.Lists.{_!_, allFinite}
 use Rattle.float.proofs.Scan.{every-at, every-iff}
 use Rattle.refusal.specs.Panel.{namesBelow}
 use Rattle.refusal.proofs.Panel.{named}
-use Rattle.places.specs.Plane.{verticesOf, pointAt, pointFinite, namedFinite}
+use Rattle.corners.specs.Plane.{pointFinite}
+use Rattle.places.specs.Plane.{verticesOf, pointAt, namedFinite}
 
 -- the coordinates without a left-over last number
 abbrev pub pairs : List Float → List Float

@@ -10,9 +10,9 @@ use Rattle.float.specs.Ops.{Ops, ops}
 use Rattle.float.specs.Numbers.{isZero}
 use Rattle.float.specs.Lists.{_!_, _!!_, allFinite, table, each}
 use Rattle.root.specs.Root.{rootOf}
-use Rattle.del_geo_core.specs.Vec3 as vec3
-use Rattle.del_geo_core.specs.Vec3.{pointOf, dotOf, subOf}
+use Rattle.del_geo_core.specs.Vec3.{dotOf, subOf}
 use Rattle.del_geo_core.specs.Tri3.{areaOf}
+use Rattle.corners.specs.Space.{pointOf, pointFinite}
 use Rattle.del_geo_core.specs.Edge.{lengthOf}
 use Rattle.refusal.specs.Answers.{zeroDivisorOf}
 use Rattle.refusal.specs.Refusal.{accepted, kernelNumber}
@@ -25,7 +25,7 @@ abbrev pub cornersOf : List (List Float) → Fold
 cornersOf p = record { p0 = pointOf (p !! 0); p1 = pointOf (p !! 1); p2 = pointOf (p !! 2); p3 = pointOf (p !! 3) }
 
 unfoldable pub isFiniteOf : Fold → Bool
-isFiniteOf p = vec3.isFiniteOf (p .p0) && vec3.isFiniteOf (p .p1) && vec3.isFiniteOf (p .p2) && vec3.isFiniteOf (p .p3)
+isFiniteOf p = pointFinite (p .p0) && pointFinite (p .p1) && pointFinite (p .p2) && pointFinite (p .p3)
 
 module _ (f : Format) where
   open Ops (ops f) using (_⊕_, _⊖_, _⊗_, _⊘_, zero, two, three)

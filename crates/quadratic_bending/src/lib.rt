@@ -4,6 +4,7 @@ ghost use lib.Ieee.{binary64};
 ghost use Rattle.float.specs.Ops.{ops};
 ghost use Rattle.root.specs.Root.{rootOf};
 ghost use Rattle.quadratic_bending.specs.Bending.{cornersOf, isFiniteOf, divisorsOf, kOf, wOf, dwdpOf, bendingOf, IsBending};
+use corners::space;
 use del_geo_core::edge;
 use del_geo_core::tri3;
 use del_geo_core::vec3;
@@ -36,17 +37,17 @@ pub struct Bending {
 fn corners(p: [[f64; 3]; 4]) -> Fold
     ensures { λ r. ⌜ r ≡ cornersOf p ⌝ }
 {
-    let p0 = vec3::point(p[0]);
-    let p1 = vec3::point(p[1]);
-    let p2 = vec3::point(p[2]);
-    let p3 = vec3::point(p[3]);
+    let p0 = space::point(p[0]);
+    let p1 = space::point(p[1]);
+    let p2 = space::point(p[2]);
+    let p3 = space::point(p[3]);
     Fold { p0, p1, p2, p3 }
 }
 
 fn is_finite(p: Fold) -> bool
     ensures { λ r. ⌜ r ≡ isFiniteOf p ⌝ }
 {
-    vec3::is_finite(p.p0) & vec3::is_finite(p.p1) & vec3::is_finite(p.p2) & vec3::is_finite(p.p3)
+    space::point_finite(p.p0) & space::point_finite(p.p1) & space::point_finite(p.p2) & space::point_finite(p.p3)
 }
 
 fn divisors_of(p: Fold) -> Divisors

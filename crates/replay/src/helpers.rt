@@ -23,7 +23,7 @@ pub(crate) fn inputs(helper: u64) -> usize
 }
 
 fn plane_area(x: [[f64; 3]; 8]) -> f64 {
-    let p = tri2::corners(input::plane(x));
+    let p = corners::plane::corners(input::plane(x));
     tri2::area(p.p0, p.p1, p.p2)
 }
 
@@ -41,9 +41,9 @@ fn put_inverse(a: V3, b: V3, c: V3) {
 }
 
 pub(crate) fn answer(helper: u64, x: [[f64; 3]; 8]) {
-    let a = vec3::point(x[0]);
-    let b = vec3::point(x[1]);
-    let c = vec3::point(x[2]);
+    let a = corners::space::point(x[0]);
+    let b = corners::space::point(x[1]);
+    let c = corners::space::point(x[2]);
     match helper {
         1 => output::put(vec3::dot(a, b)),
         2 => output::put_v3(vec3::cross(a, b)),

@@ -4,7 +4,7 @@ ghost use Prim.Native.Nat.{_+_, _*_, _<_};
 ghost use lib.Ieee.{binary64};
 ghost use lib.ListN.{length};
 ghost use Rattle.refusal.specs.Refusal.{Clear};
-ghost use Rattle.del_geo_core.specs.Tri3.{cornersOf};
+ghost use Rattle.corners.specs.Space.{cornersOf};
 ghost use Rattle.places.specs.Places.{addedOf};
 ghost use Rattle.places.specs.Space.{pointAt, cornersAt};
 ghost use Rattle.skin.specs.Skin.{badLengthOf, badSumOf, earlyOf, answerOf, IsSkin};

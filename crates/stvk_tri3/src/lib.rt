@@ -4,9 +4,9 @@ ghost use lib.Ieee.{binary64};
 ghost use Rattle.stvk_tri3.specs.GreenLagrange.{IsGreenLagrange};
 ghost use Rattle.stvk_tri3.specs.Strain.{testedOf, strainOf, IsStrain};
 ghost use Rattle.stvk_tri3.specs.Stvk.{badInputOf, IsStvk};
-use del_geo_core::tri2;
+use corners::plane;
+use corners::space;
 use del_geo_core::tri2::Tri2;
-use del_geo_core::tri3;
 use del_geo_core::tri3::Tri3;
 use refusal::Energy;
 use refusal::Tests;
@@ -24,7 +24,7 @@ fn tests(ini: Tri2, def: Tri3, rest: Rest, bad_answer: bool) -> Tests
     ensures { λ r. ⌜ r ≡ testedOf ini def rest «bad_answer» ⌝ }
 {
     Tests {
-        bad_input: !(tri2::is_finite(ini) & tri3::is_finite(def)),
+        bad_input: !(plane::is_finite(ini) & space::is_finite(def)),
         bad_stiffness: false,
         turned: false,
         zero_divisor: refusal::zero_divisor(rest.gd0_z.by, rest.gu0.x.by, rest.gu0.y.by),
@@ -53,8 +53,8 @@ fn answer(number: u32, values: Values) -> Strain
 pub fn wdw(p_ini: [[f64; 2]; 3], p_def: [[f64; 3]; 3]) -> Strain
     ensures { λ r. ⌜ IsStrain binary64 «p_ini» «p_def» r ⌝ }
 {
-    let ini = tri2::corners(p_ini);
-    let def = tri3::corners(p_def);
+    let ini = plane::corners(p_ini);
+    let def = space::corners(p_def);
     let rest = strain::rest_of(ini);
     let values = strain::values_of(rest, def);
     let bad_answer = !(float::each_finite(&values.w) & float::each_finite(&values.dw));
@@ -66,8 +66,8 @@ pub fn wdw(p_ini: [[f64; 2]; 3], p_def: [[f64; 3]; 3]) -> Strain
 pub fn wdw_green_lagrange(p_ini: [[f64; 2]; 3], p_def: [[f64; 3]; 3]) -> Strain
     ensures { λ r. ⌜ IsGreenLagrange binary64 «p_ini» «p_def» r ⌝ }
 {
-    let ini = tri2::corners(p_ini);
-    let def = tri3::corners(p_def);
+    let ini = plane::corners(p_ini);
+    let def = space::corners(p_def);
     let rest = strain::rest_of_green_lagrange(ini);
     let values = strain::values_of_green_lagrange(rest, def);
     let bad_answer = !(float::each_finite(&values.w) & float::each_finite(&values.dw));
@@ -78,15 +78,15 @@ pub fn wdw_green_lagrange(p_ini: [[f64; 2]; 3], p_def: [[f64; 3]; 3]) -> Strain
 fn bad_input(p0: Tri3, p1: Tri3, lambda: f64, myu: f64) -> bool
     ensures { λ r. ⌜ r ≡ badInputOf p0 p1 lambda myu ⌝ }
 {
-    !(tri3::is_finite(p0) & tri3::is_finite(p1) & float::is_finite(lambda) & float::is_finite(myu))
+    !(space::is_finite(p0) & space::is_finite(p1) & float::is_finite(lambda) & float::is_finite(myu))
 }
 
 // The StVK energy of a sheet that has the corners p0 at rest and p1 deformed, with its gradient and Hessian by p1. No thickness enters.
 pub fn wdwddw_(p0: [[f64; 3]; 3], p1: [[f64; 3]; 3], lambda: f64, myu: f64) -> Energy
     ensures { λ r. ⌜ IsStvk binary64 p0 p1 lambda myu r ⌝ }
 {
-    let p0 = tri3::corners(p0);
-    let p1 = tri3::corners(p1);
+    let p0 = space::corners(p0);
+    let p1 = space::corners(p1);
     let s = stvk::state_of(p0, p1, lambda, myu);
     let w = stvk::w(s);
     let dw = stvk::dw(s);

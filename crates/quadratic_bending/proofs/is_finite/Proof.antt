@@ -7,4 +7,4 @@ pub is-finite-spec : {M : Type 1} → statement M
 unfolding isFiniteOf
 is-finite-spec = tie.close (tie.spec (λ c κs. tt) (λ c κs. tt) (λ c κs. tt) (λ c κs. tt)
     (λ c. let c3 = c .before in let c2 = c3 .before in
-    rw (c .is-finite4 .ensures, c3 .is-finite3 .ensures, c2 .is-finite2 .ensures, c2 .before .is-finite .ensures)))
+    rw (c .point-finite4 .ensures, c3 .point-finite3 .ensures, c2 .point-finite2 .ensures, c2 .before .point-finite .ensures)))

@@ -1,8 +1,0 @@
--- `tri2::point` meets its contract: the code is the definition.
-use mathlib.Core.Path.{refl}
-use borrow.Author.Needs.{needs}
-use Rattle.del_geo_core.proofs.tri2.point.Statement.{statement}
-use Rattle.del_geo_core.proofs.tri2.point.Tie as tie
-
-pub point-spec : {M : Type 1} → statement M
-point-spec = tie.close (tie.spec (λ c. search needs) (λ c. search needs) (λ c. refl))
