@@ -1,4 +1,3 @@
-mod Parts
 mod MeshFile
 pub mod Unique
 pub mod MeshBlocks

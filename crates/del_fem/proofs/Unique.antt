@@ -5,6 +5,7 @@ use mathlib.Core.List.{List, [], _∷_}
 use Prim.Native.Nat.{ℕ}
 use lib.Ieee.{Float, Format}
 use Rattle.float.proofs.Unique.{only}
+use Rattle.values.proofs.Unique.{same}
 use Rattle.skin.specs.declared.Skin.{Skin}
 use Rattle.skin.proofs.SkinAnswer.{unique}
 use Rattle.mesh.specs.declared.Mesh.{Mesh}
@@ -12,9 +13,6 @@ use Rattle.del_fem.specs.Exports.{IsBendingExport, IsStrainExport, IsGre
 use Rattle.del_fem.specs.Exports.{IsMeshExport, pointsAt, cellsAt, GivesBlock, IsPointsExport, IsCellsExport}
 
 module _ {r q : ℕ} {v w : List Float} where
-  same : {number : ℕ} {values : List Float} → (r ≡ number) × (v ≡ values) → (q ≡ number) × (w ≡ values) → (r ≡ q) × (v ≡ w)
-  same a b = (only (a .0) (b .0), only (a .1) (b .1))
-
   module _ (f : Format) where
     pub bending : (pIni pDef : List (List Float)) → IsBendingExport f pIni pDef r v → IsBendingExport f pIni pDef q w → (r ≡ q) × (v ≡ w)
     bending pIni pDef = same

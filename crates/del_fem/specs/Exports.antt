@@ -7,29 +7,18 @@ use Prim.Native.Nat.{ℕ, _*_}
 use lib.Dec.{eqb}
 use lib.Ieee.{Float, Format}
 use Rattle.refusal.specs.Refusal.{accepted}
-use Rattle.refusal.specs.declared.Energy.{Energy}
 use Rattle.corners.specs.Plane as plane
 use Rattle.corners.specs.Space as space
 use Rattle.quadratic_bending.specs.Bending as bending
-use Rattle.quadratic_bending.specs.declared.Bending.{Bending}
 use Rattle.stvk_tri3.specs.GreenLagrange.{greenLagrangeOf}
 use Rattle.stvk_tri3.specs.Strain as strain
 use Rattle.stvk_tri3.specs.Stvk.{stvkOf}
-use Rattle.stvk_tri3.specs.declared.Strain.{Strain}
 use Rattle.mitc_tri3.specs.Plate.{plateOf}
 use Rattle.skin.specs.Skin.{IsSkin}
+use Rattle.values.specs.Values.{GivesBending, GivesStrain, GivesEnergy}
 use Rattle.mesh.specs.Mesh.{meshOf, numberOf, valuesOf}
 use Rattle.mesh.specs.declared.Mesh.{Mesh}
 use Rattle.mesh.specs.declared.Mesh.the-variants.{Read, Refused}
-
-abbrev pub GivesBending : Bending → (r : ℕ) (values : List Float) → Type 0
-GivesBending a r values = (r ≡ a .number) × (values ≡ a .w ++ a .dwdp)
-
-abbrev pub GivesStrain : Strain → (r : ℕ) (values : List Float) → Type 0
-GivesStrain a r values = (r ≡ a .number) × (values ≡ a .w ++ a .dw)
-
-abbrev pub GivesEnergy : Energy → (r : ℕ) (values : List Float) → Type 0
-GivesEnergy a r values = (r ≡ a .number) × (values ≡ a .w ∷ a .dw ++ a .ddw)
 
 module _ (f : Format) where
   -- THE statement of `quadratic_bending_wdw` (01-scope 5.6)

@@ -1,53 +1,12 @@
 // What C and Rust link: each routine under one plain name, corners by reference, values into a lent array, the refusal number returned (include/del_fem.h).
 ghost use mathlib.Core.Path.{_≡_};
-ghost use Prim.Native.Nat.{_+_, _≤_};
 ghost use lib.Ieee.{binary64};
-ghost use lib.ListN.{length};
-ghost use lib.Seq.{paste};
 ghost use Rattle.root.specs.Root.{SquareRoot, SquareRootWord};
 ghost use Rattle.mitc_tri3.specs.Masses.{IsMasses};
 ghost use Rattle.mesh.specs.Blocks.{IsCoordinate, IsName};
-ghost use Rattle.del_fem.specs.Exports.{GivesBending, GivesStrain, GivesEnergy, IsBendingExport, IsStrainExport, IsGreenLagrangeExport, IsStvkExport, IsPlateExport};
+ghost use Rattle.del_fem.specs.Exports.{IsBendingExport, IsStrainExport, IsGreenLagrangeExport, IsStvkExport, IsPlateExport};
 ghost use Rattle.del_fem.specs.Exports.{IsSkinExport, IsMeshExport, IsPointsExport, IsCellsExport};
 use mesh::Mesh;
-use quadratic_bending::Bending;
-use refusal::Energy;
-use stvk_tri3::Strain;
-
-// Writes xs into values, from the place at on.
-fn put(xs: &[f64], at: usize, values: &mut [f64])
-    requires { ⌜ at + length (now xs) ≤ length (now values) ⌝ }
-    ensures { λ _. ⌜ now (values .exit) ≡ paste (now (values .entry)) at (now (xs .entry)) (length (now (xs .entry))) ⌝ }
-{
-    for i in 0..xs.len() {
-        values[at + i] = xs[i];
-    }
-}
-
-fn put_bending(bending: Bending, values: &mut [f64; 39]) -> u32
-    ensures { λ r. ⌜ GivesBending bending r (now (values .exit)) ⌝ }
-{
-    put(&bending.w, 0, values);
-    put(&bending.dwdp, 3, values);
-    bending.number
-}
-
-fn put_strain(strain: Strain, values: &mut [f64; 30]) -> u32
-    ensures { λ r. ⌜ GivesStrain strain r (now (values .exit)) ⌝ }
-{
-    put(&strain.w, 0, values);
-    put(&strain.dw, 3, values);
-    strain.number
-}
-
-fn put_energy(energy: Energy, values: &mut [f64; 91]) -> u32
-    ensures { λ r. ⌜ GivesEnergy energy r (now (values .exit)) ⌝ }
-{
-    values[0] = energy.w;
-    put(&energy.dw, 1, values);
-    put(&energy.ddw, 10, values);
-    energy.number
-}
 
 // The root of x.
 #[no_mangle]
@@ -74,7 +33,7 @@ pub extern "C" fn quadratic_bending_wdw(
 ) -> u32
     ensures { λ r. ⌜ IsBendingExport binary64 (now («p_ini» .entry)) (now («p_def» .entry)) r (now (values .exit)) ⌝ }
 {
-    put_bending(quadratic_bending::wdw(*p_ini, *p_def), values)
+    values::put_bending(quadratic_bending::wdw(*p_ini, *p_def), values)
 }
 
 // Three strains, then their 27 derivatives.
@@ -86,7 +45,7 @@ pub extern "C" fn stvk_tri3_wdw(
 ) -> u32
     ensures { λ r. ⌜ IsStrainExport binary64 (now («p_ini» .entry)) (now («p_def» .entry)) r (now (values .exit)) ⌝ }
 {
-    put_strain(stvk_tri3::wdw(*p_ini, *p_def), values)
+    values::put_strain(stvk_tri3::wdw(*p_ini, *p_def), values)
 }
 
 // The three of the Green-Lagrange strain, then their 27 derivatives.
@@ -98,7 +57,7 @@ pub extern "C" fn stvk_tri3_wdw_green_lagrange(
 ) -> u32
     ensures { λ r. ⌜ IsGreenLagrangeExport binary64 (now («p_ini» .entry)) (now («p_def» .entry)) r (now (values .exit)) ⌝ }
 {
-    put_strain(stvk_tri3::wdw_green_lagrange(*p_ini, *p_def), values)
+    values::put_strain(stvk_tri3::wdw_green_lagrange(*p_ini, *p_def), values)
 }
 
 // The StVK energy, its gradient of 9, its Hessian of 81.
@@ -112,7 +71,7 @@ pub extern "C" fn stvk_tri3_wdwddw_(
 ) -> u32
     ensures { λ r. ⌜ IsStvkExport binary64 (now (p0 .entry)) (now (p1 .entry)) lambda myu r (now (values .exit)) ⌝ }
 {
-    put_energy(stvk_tri3::wdwddw_(*p0, *p1, lambda, myu), values)
+    values::put_energy(stvk_tri3::wdwddw_(*p0, *p1, lambda, myu), values)
 }
 
 // The plate's energy, its gradient of 9, its Hessian of 81.
@@ -127,7 +86,7 @@ pub extern "C" fn mitc_tri3_w_dw_ddw_plate_bending(
 ) -> u32
     ensures { λ r. ⌜ IsPlateExport binary64 (now (p .entry)) (now (u .entry)) thk lambda myu r (now (values .exit)) ⌝ }
 {
-    put_energy(
+    values::put_energy(
         mitc_tri3::w_dw_ddw_plate_bending(*p, *u, thk, lambda, myu),
         values,
     )

@@ -1,36 +1,6 @@
 // A double for a person: a whole multiple of 2^-10 of size below 2^40 by its exact decimal, any other by the 16 hexadecimal digits of its bits.
-ghost use Prim.Native.Nat.{_^_, _≤_, _<_};
-ghost use Rattle.panel.specs.Units.{IsScaled};
+ghost use Prim.Native.Nat.{_≤_, _<_};
 use libc::STDOUT_FILENO;
-
-// A size in units of 2^-10: n of them exactly, or no whole number below 2^50 of them.
-struct Scaled {
-    exact: bool,
-    n: u64,
-}
-
-// The size of the number that has the pattern b, a pattern without its sign.
-fn units(b: u64) -> Scaled
-    requires { ⌜ b < 2 ^ 63 ⌝ }
-    ensures { λ r. ⌜ IsScaled b r ⌝ }
-{
-    let e = b / 0x10_0000_0000_0000;
-    if b == 0 {
-        return Scaled { exact: true, n: 0 };
-    }
-    if e < 1013 {
-        return Scaled { exact: false, n: 0 };
-    }
-    if e > 1062 {
-        return Scaled { exact: false, n: 0 };
-    }
-    let one = 1u64 << (1065 - e);
-    let m = b % 0x10_0000_0000_0000 + 0x10_0000_0000_0000;
-    Scaled {
-        exact: m % one == 0,
-        n: m / one,
-    }
-}
 
 // Each of these puts some bytes on standard output, and answers how many.
 fn put_sign(negative: bool) -> usize
@@ -85,7 +55,7 @@ pub(crate) fn put(x: f64) -> usize
     ensures { λ r. ⌜ r ≤ 32 ⌝ }
 {
     let w = float::to_word(x);
-    let size = units(w % 0x8000_0000_0000_0000);
+    let size = units::scaled(w);
     if size.exact {
         return put_decimal(0x8000_0000_0000_0000 <= w, size.n);
     }

@@ -6,7 +6,6 @@ ghost use lib.Ieee.{binary64};
 ghost use Rattle.float.specs.Lists.{table};
 ghost use Rattle.plate.specs.Plate.{gdOf, stateOf, column3Of, column2Of, wOf, dwOf, ddwOf};
 ghost use Rattle.plate.specs.Parts.{columnsOf, sumOf, dwAtOf, ddwAtOf};
-
 use del_geo_core::curve_linear_coords;
 use del_geo_core::curve_linear_coords::DualBasis;
 use del_geo_core::mat3_row_major::Matrix3;

@@ -47,7 +47,10 @@ fn corners(p: [[f64; 3]; 4]) -> Fold
 fn is_finite(p: Fold) -> bool
     ensures { λ r. ⌜ r ≡ isFiniteOf p ⌝ }
 {
-    space::point_finite(p.p0) & space::point_finite(p.p1) & space::point_finite(p.p2) & space::point_finite(p.p3)
+    space::point_finite(p.p0)
+        & space::point_finite(p.p1)
+        & space::point_finite(p.p2)
+        & space::point_finite(p.p3)
 }
 
 fn divisors_of(p: Fold) -> Divisors

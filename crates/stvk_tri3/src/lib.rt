@@ -78,7 +78,10 @@ pub fn wdw_green_lagrange(p_ini: [[f64; 2]; 3], p_def: [[f64; 3]; 3]) -> Strain
 fn bad_input(p0: Tri3, p1: Tri3, lambda: f64, myu: f64) -> bool
     ensures { λ r. ⌜ r ≡ badInputOf p0 p1 lambda myu ⌝ }
 {
-    !(space::is_finite(p0) & space::is_finite(p1) & float::is_finite(lambda) & float::is_finite(myu))
+    !(space::is_finite(p0)
+        & space::is_finite(p1)
+        & float::is_finite(lambda)
+        & float::is_finite(myu))
 }
 
 // The StVK energy of a sheet that has the corners p0 at rest and p1 deformed, with its gradient and Hessian by p1. No thickness enters.

@@ -5,16 +5,15 @@ use Prim.Native.Nat.{ℕ, zero, suc, _+_, _-_, _*_, _/_, _%_, _^_, _≤_, _<_}
 use native.Mathlib.Nat.{add-zero, one-mul, lt-of-not-le, mod-lt, mod-eq-of-lt, lt-of-lt-of-le, mul-pos, mul-mod-left, mul-le-mul, mul-le-mul-left, mul-le-mul-right, eq-of-mul-eq-mul-right}
 use native.Mathlib.Decide.{decLe}
 use native.Mathlib.Omega.{arith}
-use lib.Dec.{eqb, lit≤, lit<}
+use lib.Dec.{lit≤, lit<}
 use lib.Pow.{pow-add, pow-pos, pow-mono, shl-exact, split}
-use borrow.Author.Tests.{eqb-true, eqb-false}
 use lib.Ieee.{binary64, ofBits, ofFields, odd}
 use lib.Ieee.Exact.{HasValue}
 use Rattle.float.proofs.Value.{rescale, fractions-agree}
 use Rattle.float.proofs.Bits.{infinity-bits, above-nan}
 use Rattle.float.proofs.Patterns.{subnormal-value}
 use Rattle.root.proofs.Fields.{unpack-normal}
-use Rattle.panel.specs.Units.{InUnits, IsScaled}
+use Rattle.units.specs.Units.{InUnits, IsScaled}
 
 -- the code's 1 << k
 shifted : (k : ℕ) → k < 64 → 1 * 2 ^ k % 2 ^ 64 ≡ 2 ^ k
@@ -111,21 +110,27 @@ module _ (b : ℕ) where
       go (no h) = rw (above-nan binary64 b (rw (mod-eq-of-lt small) (lt-of-not-le h))) at is
 
   pub too-low : 0 < b → e < 1013 → IsScaled b (record { exact = false; n = 0 })
-  too-low some most = record { some = λ no. absurd (false≢true no); none = λ no n small is. by-field (decLe (2 ^ 52) b) n is }
+  too-low some most = record { some = λ no. absurd (false≢true no); none = λ no. (refl, λ n small is. by-field (decLe (2 ^ 52) b) n is) }
     where
       by-field : Dec (2 ^ 52 ≤ b) → (n : ℕ) → InUnits b n → ⊥
       by-field (yes h) n is = below (omega arith) most n is
       by-field (no h) n is = subnormal some (lt-of-not-le h) n is
 
   pub too-high : b < 2 ^ 63 → 1062 < e → IsScaled b (record { exact = false; n = 0 })
-  too-high unsigned from = record { some = λ no. absurd (false≢true no); none = λ no n small is. by-field (decLe (2047 * 2 ^ 52) b) n small is }
+  too-high unsigned from = record { some = λ no. absurd (false≢true no); none = λ no. (refl, λ n small is. by-field (decLe (2047 * 2 ^ 52) b) n small is) }
     where
       by-field : Dec (2047 * 2 ^ 52 ≤ b) → (n : ℕ) → n < 2 ^ 50 → InUnits b n → ⊥
       by-field (yes h) n small is = special h unsigned n is
       by-field (no h) n small is = above from (lt-of-not-le h) n small is
 
-  pub between : 1013 ≤ e → e ≤ 1062 → let one = 1 * 2 ^ (1065 - e) % 2 ^ 64 in IsScaled b (record { exact = eqb (m % one) 0; n = m / one })
-  between from most = rw (shifted (1065 - e) (omega arith)) (record {
-    some = λ yes. exactly from most (eqb-true _ _ yes);
-    none = λ no n small is. not-exactly from most (eqb-false _ _ no) n is;
-  })
+  abbrev one : ℕ
+  one = 1 * 2 ^ (1065 - e) % 2 ^ 64
+
+  pub not-whole : 1013 ≤ e → e ≤ 1062 → (m % one ≡ 0 → ⊥) → IsScaled b (record { exact = false; n = 0 })
+  not-whole from most rest = record { some = λ no. absurd (false≢true no); none = λ no. (refl, λ n small is. not-exactly from most (rw (shifted (1065 - e) (omega arith)) at rest) n is) }
+
+  pub whole : 1013 ≤ e → e ≤ 1062 → m % one ≡ 0 → IsScaled b (record { exact = true; n = m / one })
+  whole from most rest = record {
+    some = λ yes. rw (shifted (1065 - e) (omega arith)) (exactly from most (rw (shifted (1065 - e) (omega arith)) at rest));
+    none = λ no. absurd (true≢false no);
+  }

@@ -1,9 +1,9 @@
 -- `put_energy` meets its contract: one number and two parts fill the array.
 use mathlib.Core.Path.{refl, _∙_}
 use borrow.Author.Needs.{needs}
-use Rattle.del_fem.proofs.Parts.{number-and-parts}
-use Rattle.del_fem.proofs.put_energy.Statement.{statement}
-use Rattle.del_fem.proofs.put_energy.Tie as tie
+use Rattle.values.proofs.Parts.{number-and-parts}
+use Rattle.values.proofs.put_energy.Statement.{statement}
+use Rattle.values.proofs.put_energy.Tie as tie
 
 pub put-energy-spec : {M : Type 1} → statement M
 put-energy-spec = tie.close (tie.spec

@@ -1,9 +1,9 @@
 -- `put_bending` meets its contract: its two parts fill the array.
 use mathlib.Core.Path.{refl, _∙_}
 use borrow.Author.Needs.{needs}
-use Rattle.del_fem.proofs.Parts.{parts}
-use Rattle.del_fem.proofs.put_bending.Statement.{statement}
-use Rattle.del_fem.proofs.put_bending.Tie as tie
+use Rattle.values.proofs.Parts.{parts}
+use Rattle.values.proofs.put_bending.Statement.{statement}
+use Rattle.values.proofs.put_bending.Tie as tie
 
 pub put-bending-spec : {M : Type 1} → statement M
 put-bending-spec = tie.close (tie.spec

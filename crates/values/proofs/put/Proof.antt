@@ -7,8 +7,8 @@ use native.Mathlib.Omega.{arith}
 use lib.Ieee.{Float, nan}
 use lib.ListN.{length, set, getD, length-set}
 use lib.Seq.{paste, paste-zero, paste-suc}
-use Rattle.del_fem.proofs.put.Statement.{statement}
-use Rattle.del_fem.proofs.put.Tie as tie
+use Rattle.values.proofs.put.Statement.{statement}
+use Rattle.values.proofs.put.Tie as tie
 
 more : (d xs v : List Float) (at i : ℕ) → at + i < length d → i < length xs → v ≡ paste d at xs i → set v (at + i) (getD xs i nan) ≡ paste d at xs (i + 1)
 more d xs v at i h k e = rw (add-one, e) (paste-suc d at xs i nan h k)

@@ -1,9 +1,9 @@
 -- `put_strain` meets its contract: its two parts fill the array.
 use mathlib.Core.Path.{refl, _∙_}
 use borrow.Author.Needs.{needs}
-use Rattle.del_fem.proofs.Parts.{parts}
-use Rattle.del_fem.proofs.put_strain.Statement.{statement}
-use Rattle.del_fem.proofs.put_strain.Tie as tie
+use Rattle.values.proofs.Parts.{parts}
+use Rattle.values.proofs.put_strain.Statement.{statement}
+use Rattle.values.proofs.put_strain.Tie as tie
 
 pub put-strain-spec : {M : Type 1} → statement M
 put-strain-spec = tie.close (tie.spec

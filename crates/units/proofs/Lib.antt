@@ -1,0 +1,2 @@
+mod Sizes
+pub mod Unique
