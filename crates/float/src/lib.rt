@@ -1,11 +1,10 @@
-// One number and lists of numbers: finite tests, clearing, and bits in and out.
+// One number: finite and zero tests, and bits in and out.
 ghost use mathlib.Core.Path.{_≡_};
 ghost use lib.Ieee.{binary64, ofBits, toBits};
 ghost use lib.Ieee.Scale.{finite};
 ghost use Prim.Native.Nat.{_<_, _^_};
 ghost use mathlib.Core.List.{[], _∷_};
 ghost use Rattle.float.specs.Numbers.{isZero, bigEndian};
-ghost use Rattle.float.specs.Lists.{allFinite, cleared};
 
 // The bits of the one NaN (01-scope 4.2).
 pub const NAN_WORD: u64 = 0x7ff8_0000_0000_0000;
@@ -23,50 +22,6 @@ pub fn is_zero(x: f64) -> bool
     ensures { λ r. ⌜ r ≡ isZero x ⌝ }
 {
     x == 0.0
-}
-
-// Whether every number of the list is finite, looked at one by one.
-pub fn each_finite(xs: &[f64]) -> bool
-    ensures { λ r. ⌜ r ≡ allFinite (now (xs .entry)) ⌝ }
-{
-    let mut ok = true;
-    for i in 0..xs.len() {
-        ok = ok & is_finite(xs[i]);
-    }
-    ok
-}
-
-// The same for longer lists, by four sums side by side, which the compiler takes two at a time: a finite sum has finite terms alone.
-// Where the sums are finite, what is left over is looked at one by one, else every number.
-pub fn all_finite(xs: &[f64]) -> bool
-    ensures { λ r. ⌜ r ≡ allFinite (now (xs .entry)) ⌝ }
-{
-    let mut a = 0.0;
-    let mut b = 0.0;
-    let mut c = 0.0;
-    let mut d = 0.0;
-    let end = xs.len() / 4 * 4;
-    let mut i = 0;
-    while i < end {
-        a = a + xs[i];
-        b = b + xs[i + 1];
-        c = c + xs[i + 2];
-        d = d + xs[i + 3];
-        i = i + 4;
-    }
-    if is_finite(a + b + c + d) {
-        return each_finite(&xs[i..]);
-    }
-    each_finite(xs)
-}
-
-// Sets every number of the list to +0.
-pub fn clear(xs: &mut [f64])
-    ensures { λ _. ⌜ now (xs .exit) ≡ cleared binary64 (now (xs .entry)) ⌝ }
-{
-    for i in 0..xs.len() {
-        xs[i] = 0.0;
-    }
 }
 
 fn wide(b: u8) -> u64

@@ -75,10 +75,10 @@ pub fn mass_lumped_plate_bending(
     if panel::bad_input(tri2vtx, vtx2xy, thick, rho) {
         return BAD_INPUT;
     }
-    float::clear(vtx2mass);
+    lists::clear(vtx2mass);
     panel::add_all(tri2vtx, vtx2xy, thick, rho, vtx2mass);
-    if !float::all_finite(vtx2mass) {
-        float::clear(vtx2mass);
+    if !lists::all_finite(vtx2mass) {
+        lists::clear(vtx2mass);
         return BAD_ANSWER;
     }
     ACCEPTED

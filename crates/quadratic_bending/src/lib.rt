@@ -147,7 +147,7 @@ pub fn wdw(p_ini: [[f64; 3]; 4], p_def: [[f64; 3]; 4]) -> Bending
         bad_stiffness: false,
         turned: false,
         zero_divisor: float::is_zero(d.len) | refusal::zero_divisor(d.h0, d.h1, d.root_len),
-        bad_answer: !(float::each_finite(&w) & float::each_finite(&dwdp)),
+        bad_answer: !(lists::each_finite(&w) & lists::each_finite(&dwdp)),
     };
     answer(refusal::kernel(tests), w, dwdp)
 }

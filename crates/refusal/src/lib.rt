@@ -75,7 +75,7 @@ pub fn zero_divisor(a: f64, b: f64, c: f64) -> bool
 pub fn bad_energy(w: f64, dw: [f64; 9], ddw: [f64; 81]) -> bool
     ensures { λ r. ⌜ r ≡ badEnergyOf w dw ddw ⌝ }
 {
-    !(float::is_finite(w) & float::each_finite(&dw) & float::all_finite(&ddw))
+    !(float::is_finite(w) & lists::each_finite(&dw) & lists::all_finite(&ddw))
 }
 
 // The values where nothing is refused, else +0 throughout.

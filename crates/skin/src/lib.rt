@@ -33,7 +33,7 @@ fn bad_length(ini: usize, def: usize, names: usize, places: usize) -> bool
 fn bad_sum(w: f64, vtx2dw: &[f64]) -> bool
     ensures { λ r. ⌜ r ≡ badSumOf w (now («vtx2dw» .entry)) ⌝ }
 {
-    !(float::is_finite(w) & float::all_finite(vtx2dw))
+    !(float::is_finite(w) & lists::all_finite(vtx2dw))
 }
 
 fn refused(number: u32, place: usize) -> Skin
@@ -113,7 +113,7 @@ fn add_all(
     requires { ⌜ Clear (earlyOf (length (now «vtx2ini»)) (length (now «vtx2def»)) (now «tri2vtx») (length (now «vtx2dw»))) ⌝ }
     ensures { λ r. ⌜ IsSkin binary64 (now («vtx2ini» .entry)) (now («vtx2def» .entry)) (now («tri2vtx» .entry)) lambda myu (now («vtx2dw» .entry)) r (now («vtx2dw» .exit)) ⌝ }
 {
-    float::clear(vtx2dw);
+    lists::clear(vtx2dw);
     let mut w = 0.0;
     let mut i = 0;
     while i < tri2vtx.len() {
@@ -122,7 +122,7 @@ fn add_all(
         let i2 = tri2vtx[i + 2];
         let e = answer(vtx2ini, vtx2def, lambda, myu, i0, i1, i2);
         if e.number != ACCEPTED {
-            float::clear(vtx2dw);
+            lists::clear(vtx2dw);
             return refused(e.number, i / 3);
         }
         w += e.w;
@@ -131,7 +131,7 @@ fn add_all(
         i += 3;
     }
     if bad_sum(w, vtx2dw) {
-        float::clear(vtx2dw);
+        lists::clear(vtx2dw);
         return refused(BAD_ANSWER, i / 3);
     }
     Skin {

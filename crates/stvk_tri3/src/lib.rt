@@ -57,7 +57,7 @@ pub fn wdw(p_ini: [[f64; 2]; 3], p_def: [[f64; 3]; 3]) -> Strain
     let def = space::corners(p_def);
     let rest = strain::rest_of(ini);
     let values = strain::values_of(rest, def);
-    let bad_answer = !(float::each_finite(&values.w) & float::each_finite(&values.dw));
+    let bad_answer = !(lists::each_finite(&values.w) & lists::each_finite(&values.dw));
     let tests = tests(ini, def, rest, bad_answer);
     answer(refusal::kernel(tests), values)
 }
@@ -70,7 +70,7 @@ pub fn wdw_green_lagrange(p_ini: [[f64; 2]; 3], p_def: [[f64; 3]; 3]) -> Strain
     let def = space::corners(p_def);
     let rest = strain::rest_of_green_lagrange(ini);
     let values = strain::values_of_green_lagrange(rest, def);
-    let bad_answer = !(float::each_finite(&values.w) & float::each_finite(&values.dw));
+    let bad_answer = !(lists::each_finite(&values.w) & lists::each_finite(&values.dw));
     let tests = tests(ini, def, rest, bad_answer);
     answer(refusal::kernel(tests), values)
 }

@@ -1,12 +1,12 @@
--- `float::all_finite` meets its contract. The invariant: where the four sums are finite, what is left from `i` is finite exactly when the whole list is.
+-- `lists::all_finite` meets its contract. The invariant: where the four sums are finite, what is left from `i` is finite exactly when the whole list is.
 use mathlib.Core.Path.{_≡_, refl, sym, _∙_}
 use Prim.Native.Nat.{_≤_, _-_, _%_}
 use native.Mathlib.Omega.{arith}
 use lib.Ieee.{binary64}
 use lib.ListN.{length}
-use Rattle.float.proofs.Sums.{Summed, four-more, summed}
-use Rattle.float.proofs.all_finite.Statement.{statement}
-use Rattle.float.proofs.all_finite.Tie as tie
+use Rattle.lists.proofs.Sums.{Summed, four-more, summed}
+use Rattle.lists.proofs.all_finite.Statement.{statement}
+use Rattle.lists.proofs.all_finite.Tie as tie
 
 pub all-finite-spec : {M : Type 1} → statement M
 all-finite-spec = tie.close (tie.spec
