@@ -2,7 +2,7 @@
 ghost use mathlib.Core.Path.{_≡_};
 ghost use Rattle.corners.specs.Space.{pointOf, cornersOf, pointFinite, isFiniteOf};
 use del_geo_core::tri3::Tri3;
-use del_geo_core::vec3::V3;
+use vec3::V3;
 
 pub fn point(a: [f64; 3]) -> V3
     ensures { λ r. ⌜ r ≡ pointOf a ⌝ }

@@ -1,9 +1,9 @@
 -- The inverse of three covariant vectors (01-scope 3.2: inverse).
 use lib.Ieee.{Format}
-use Rattle.del_geo_core.specs.declared.vec3.V3.{V3}
-use Rattle.del_geo_core.specs.declared.vec3.Divided.{Divided}
+use Rattle.vec3.specs.declared.V3.{V3}
+use Rattle.vec3.specs.declared.Divided.{Divided}
 use Rattle.del_geo_core.specs.declared.curve_linear_coords.DualBasis.{DualBasis}
-use Rattle.del_geo_core.specs.Vec3.{crossOf, dotOf, overOf}
+use Rattle.vec3.specs.Vec3.{crossOf, dotOf, overOf}
 
 module _ (f : Format) where
   -- one vector of it: across g1 and g2, scaled by 1 / its dot with g0

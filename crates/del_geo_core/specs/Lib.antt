@@ -1,4 +1,3 @@
-pub mod Vec3
 pub mod Tri2
 pub mod Tri3
 pub mod Edge

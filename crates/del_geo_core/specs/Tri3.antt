@@ -1,9 +1,9 @@
 -- A triangle in space: its area and unit normal (01-scope 3.2: space area, unit normal and area).
 use lib.Ieee.{Float, Format}
 use Rattle.float.specs.Ops.{Ops, ops}
-use Rattle.del_geo_core.specs.declared.vec3.V3.{V3}
+use Rattle.vec3.specs.declared.V3.{V3}
 use Rattle.del_geo_core.specs.declared.tri3.NormalArea.{NormalArea}
-use Rattle.del_geo_core.specs.Vec3.{crossOf, subOf, normOf, unitOf}
+use Rattle.vec3.specs.Vec3.{crossOf, subOf, normOf, unitOf}
 
 module _ (f : Format) where
   open Ops (ops f) using (_⊗_, half)

@@ -2,9 +2,8 @@
 ghost use mathlib.Core.Path.{_≡_};
 ghost use lib.Ieee.{binary64};
 ghost use Rattle.del_geo_core.specs.CurveLinearCoords.{contravariantOf, inverseOf};
-use crate::vec3;
-use crate::vec3::Divided;
-use crate::vec3::V3;
+use vec3::Divided;
+use vec3::V3;
 
 // Three contravariant vectors, each with the dot that divided it: gu[0] of the sources is gu.x.
 pub struct DualBasis {

@@ -2,8 +2,7 @@
 ghost use mathlib.Core.Path.{_≡_};
 ghost use lib.Ieee.{binary64};
 ghost use Rattle.del_geo_core.specs.Edge.{lengthOf};
-use crate::vec3;
-use crate::vec3::V3;
+use vec3::V3;
 
 pub fn length(p0: V3, p1: V3) -> f64
     ensures { λ r. ⌜ r ≡ lengthOf binary64 p0 p1 ⌝ }

@@ -2,8 +2,7 @@
 ghost use mathlib.Core.Path.{_≡_};
 ghost use lib.Ieee.{binary64};
 ghost use Rattle.del_geo_core.specs.Mat3RowMajor.{multVecOf};
-use crate::vec3;
-use crate::vec3::V3;
+use vec3::V3;
 
 // Its rows: the entry at row 0 and column 1 is x.y.
 pub struct Matrix3 {

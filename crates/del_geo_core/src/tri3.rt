@@ -2,9 +2,8 @@
 ghost use mathlib.Core.Path.{_≡_};
 ghost use lib.Ieee.{binary64};
 ghost use Rattle.del_geo_core.specs.Tri3.{normalOf, areaOf, unitNormalAreaOf};
-use crate::vec3;
-use crate::vec3::Divided;
-use crate::vec3::V3;
+use vec3::Divided;
+use vec3::V3;
 
 pub struct Tri3 {
     pub p0: V3,

@@ -5,7 +5,7 @@ use Rattle.float.proofs.Unique.{only}
 use Rattle.del_geo_core.specs.declared.curve_linear_coords.DualBasis.{DualBasis}
 use Rattle.del_geo_core.specs.declared.tri2.Tri2.{Tri2}
 use Rattle.del_geo_core.specs.declared.tri3.Tri3.{Tri3}
-use Rattle.del_geo_core.specs.declared.vec3.V3.{V3}
+use Rattle.vec3.specs.declared.V3.{V3}
 use Rattle.edges.specs.Edges.{planeOf, spaceOf, glstrainOf, guGuOf}
 use Rattle.edges.specs.declared.Gd.{Gd}
 use Rattle.edges.specs.declared.GuGu.{GuGu}

@@ -1,11 +1,11 @@
 -- A triangle's edges from corner 0, the strain along them, and the dots of the plate's contravariant vectors (stvk_tri3.rs, mitc_tri3.rs: gd, glstrain, gu_gu). An index 0, 1, 2 of the sources is x, y, z here.
 use lib.Ieee.{Format}
 use Rattle.float.specs.Ops.{Ops, ops}
-use Rattle.del_geo_core.specs.Vec3.{dotOf, subOf}
+use Rattle.vec3.specs.Vec3.{dotOf, subOf}
 use Rattle.del_geo_core.specs.declared.curve_linear_coords.DualBasis.{DualBasis}
 use Rattle.del_geo_core.specs.declared.tri2.Tri2.{Tri2}
 use Rattle.del_geo_core.specs.declared.tri3.Tri3.{Tri3}
-use Rattle.del_geo_core.specs.declared.vec3.V3.{V3}
+use Rattle.vec3.specs.declared.V3.{V3}
 use Rattle.edges.specs.declared.Gd.{Gd}
 use Rattle.edges.specs.declared.GuGu.{GuGu}
 

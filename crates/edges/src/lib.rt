@@ -6,9 +6,8 @@ ghost use Rattle.edges.specs.Edges.{planeOf, spaceOf, glstrainOf, guGuOf
 use del_geo_core::curve_linear_coords::DualBasis;
 use del_geo_core::tri2::Tri2;
 use del_geo_core::tri3::Tri3;
-use del_geo_core::vec3;
-use del_geo_core::vec3::Divided;
-use del_geo_core::vec3::V3;
+use vec3::Divided;
+use vec3::V3;
 
 // Two covariant vectors: the edges from corner 0 to corners 1 and 2.
 pub struct Gd {

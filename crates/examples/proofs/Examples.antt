@@ -11,7 +11,7 @@ use Rattle.refusal.specs.Panel.{withinLimits, badLengthOf}
 use Rattle.refusal.specs.declared.Energy.{Energy}
 use Rattle.places.specs.Places.{addVertex, addTriangle}
 use Rattle.places.specs.Plane.{cornersAt, namedFinite}
-use Rattle.del_geo_core.specs.Vec3 as vec3
+use Rattle.vec3.specs.Vec3 as vec3
 use Rattle.corners.specs.Plane as plane
 use Rattle.corners.specs.Space as space
 use Rattle.del_geo_core.specs.Tri3 as tri3

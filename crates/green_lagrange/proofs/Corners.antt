@@ -7,7 +7,7 @@ use Rattle.float.proofs.Scan.{both}
 use Rattle.rounding.specs.Whole.{isWholeUpTo}
 use Rattle.rounding.proofs.Whole.{whole, coordinate}
 use Rattle.del_geo_core.specs.declared.tri3.Tri3.{Tri3}
-use Rattle.del_geo_core.specs.declared.vec3.V3.{V3}
+use Rattle.vec3.specs.declared.V3.{V3}
 use Rattle.green_lagrange.specs.Sheet.{isWholePoint, isWhole}
 use Rattle.green_lagrange.proofs.Vector.{Nums, minus, Dyads}
 

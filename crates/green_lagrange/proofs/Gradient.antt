@@ -1,7 +1,7 @@
 -- F as it is read: a column is an edge of the deformed sheet over a or over b, so that an entry of F^T F is a dot of two edges over the product.
 use Prim.Native.Nat.{ℕ, _*_, _<_}
 use lib.Ieee.{Format, low}
-use Rattle.del_geo_core.specs.declared.vec3.V3.{V3}
+use Rattle.vec3.specs.declared.V3.{V3}
 use Rattle.green_lagrange.specs.Fraction.{Fraction, _∔_, _∸_, _⋅_, _÷_, exact}
 use Rattle.green_lagrange.proofs.Fraction.{Reads, reads-sum, reads-minus, reads-product, reads-over, reads-whole}
 use Rattle.green_lagrange.proofs.Vector.{Nums, dot, minus, Dyads}

@@ -13,10 +13,10 @@ use Rattle.rounding.specs.Whole.{isNatural}
 use Rattle.rounding.proofs.Dyadic.{dyad-sub}
 use Rattle.rounding.proofs.Whole.{natural, zero-dyad}
 use Rattle.del_geo_core.specs.CurveLinearCoords.{contravariantOf}
-use Rattle.del_geo_core.specs.Vec3.{normOf, overOf, unitOf, crossOf}
+use Rattle.vec3.specs.Vec3.{normOf, overOf, unitOf, crossOf}
 use Rattle.del_geo_core.specs.declared.tri2.Tri2.{Tri2}
 use Rattle.del_geo_core.specs.declared.tri2.V2.{V2}
-use Rattle.del_geo_core.specs.declared.vec3.V3.{V3}
+use Rattle.vec3.specs.declared.V3.{V3}
 use Rattle.edges.specs.Edges.{planeOf}
 use Rattle.strain.specs.Strain.{restOfGreenLagrange}
 use Rattle.green_lagrange.specs.Sheet.{isAt, isRest}

@@ -12,7 +12,7 @@ use Rattle.rounding.specs.Exact.{mag, sign, value}
 use Rattle.rounding.specs.Whole.{isWholeUpTo, isNatural}
 use Rattle.corners.specs.Plane as plane
 use Rattle.corners.specs.Space as space
-use Rattle.del_geo_core.specs.Vec3 as vec3
+use Rattle.vec3.specs.Vec3 as vec3
 use Rattle.edges.specs.Edges as edges
 use Rattle.strain.specs.Strain as strain
 use Rattle.stvk_tri3.specs.Example.{atRest, pulled}

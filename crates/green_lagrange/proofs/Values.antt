@@ -16,10 +16,10 @@ use Rattle.rounding.specs.Whole.{unit}
 use Rattle.rounding.proofs.Nearest.{top-digit}
 use Rattle.rounding.proofs.Dyadic.{whole-room, dyad-as, dyad-neg, dyad-add, dyad-sub, dyad-mul}
 use Rattle.rounding.proofs.Whole.{half-dyad}
-use Rattle.del_geo_core.specs.Vec3.{dotOf}
+use Rattle.vec3.specs.Vec3.{dotOf}
 use Rattle.del_geo_core.specs.declared.tri2.Tri2.{Tri2}
 use Rattle.del_geo_core.specs.declared.tri3.Tri3.{Tri3}
-use Rattle.del_geo_core.specs.declared.vec3.V3.{V3}
+use Rattle.vec3.specs.declared.V3.{V3}
 use Rattle.edges.specs.Edges.{planeOf, spaceOf, glstrainOf}
 use Rattle.strain.specs.Strain.{flat, hogeOf, dwKOf}
 use Rattle.green_lagrange.specs.Sheet.{isRest, isWhole}

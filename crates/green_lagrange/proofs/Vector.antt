@@ -10,8 +10,8 @@ use lib.Ieee.Scale.{finite}
 use Rattle.rounding.specs.Exact.{Num, _⊞_, _⊟_, _⊠_, signed, Number}
 use Rattle.rounding.specs.Dyadic.{Dyad, Room}
 use Rattle.rounding.proofs.Dyadic.{dyad-add, dyad-sub, dyad-mul}
-use Rattle.del_geo_core.specs.Vec3.{dotOf, crossOf, subOf, scaleOf}
-use Rattle.del_geo_core.specs.declared.vec3.V3.{V3}
+use Rattle.vec3.specs.Vec3.{dotOf, crossOf, subOf, scaleOf}
+use Rattle.vec3.specs.declared.V3.{V3}
 
 pub record Nums : Type 0 where
   pub x : Num

@@ -6,7 +6,7 @@ use Rattle.float.specs.Lists.{cleared, foldThrees}
 use Rattle.float.specs.Ops.{Ops, ops}
 use Rattle.del_geo_core.specs.Tri2.{areaOf}
 use Rattle.del_geo_core.specs.declared.tri2.Tri2.{Tri2}
-use Rattle.del_geo_core.specs.declared.vec3.V3.{V3}
+use Rattle.vec3.specs.declared.V3.{V3}
 use Rattle.places.specs.Places.{addTriangle}
 use Rattle.places.specs.Plane.{cornersAt}
 

@@ -4,7 +4,7 @@ ghost use lib.Ieee.{binary64};
 ghost use Rattle.masses.specs.Masses.{massOf};
 use del_geo_core::tri2;
 use del_geo_core::tri2::Tri2;
-use del_geo_core::vec3::V3;
+use vec3::V3;
 
 // Three numbers: for a vertex's translation and for its two rotations.
 pub fn mass(thick: f64, rho: f64, p: Tri2) -> V3

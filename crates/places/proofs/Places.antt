@@ -12,7 +12,7 @@ use lib.Ieee.{Float, Format, nan}
 use borrow.Author.Tests.{eqb-true, eqb-false, eq-eqb, ne-eqb, lt-ltb}
 use Rattle.float.specs.Lists.{_!_}
 use Rattle.float.specs.Ops.{Ops, ops}
-use Rattle.del_geo_core.specs.declared.vec3.V3.{V3}
+use Rattle.vec3.specs.declared.V3.{V3}
 use Rattle.places.specs.Places.{component, addAt, addVertex, addTriangle, addedOf}
 
 -- place c of vertex i is place k of vertex v where both are the same

@@ -4,7 +4,7 @@ use mathlib.Core.List.{List}
 use Prim.Native.Nat.{ℕ}
 use lib.Ieee.{Float, Format}
 use Rattle.float.proofs.Unique.{only}
-use Rattle.del_geo_core.specs.declared.vec3.V3.{V3}
+use Rattle.vec3.specs.declared.V3.{V3}
 use Rattle.places.specs.Places.{addedOf}
 
 pub add-triangle : (f : Format) (values : List Float) (i0 i1 i2 : ℕ) (x0 x1 x2 : V3) {r q : List Float} → r ≡ addedOf f values i0 i1 i2 x0 x1 x2

@@ -12,7 +12,7 @@ use Rattle.float.specs.Lists.{_!_, cleared, every, fold, foldThrees, total}
 use Rattle.float.specs.Ops.{Ops, ops}
 use Rattle.float.proofs.Fold.{fold-append, threes-keep}
 use Rattle.refusal.specs.Panel.{namesBelow}
-use Rattle.del_geo_core.specs.declared.vec3.V3.{V3}
+use Rattle.vec3.specs.declared.V3.{V3}
 use Rattle.places.specs.Places.{component, addTriangle}
 use Rattle.places.specs.Vertex.{when, namedBy, givenTo}
 use Rattle.places.proofs.Places.{addIf, triangle-at, triangle-length}

@@ -7,7 +7,7 @@ use lib.Ieee.{Float, Format}
 use lib.ListN.{length, set}
 use Rattle.float.specs.Lists.{_!_}
 use Rattle.float.specs.Ops.{Ops, ops}
-use Rattle.del_geo_core.specs.declared.vec3.V3.{V3}
+use Rattle.vec3.specs.declared.V3.{V3}
 
 -- the one of three numbers that goes to place k
 abbrev pub component : (k : ℕ) → V3 → Float

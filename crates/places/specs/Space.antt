@@ -5,7 +5,7 @@ use lib.Ieee.{Float}
 use lib.ListN.{length}
 use Rattle.float.specs.Lists.{_!_}
 use Rattle.del_geo_core.specs.declared.tri3.Tri3.{Tri3}
-use Rattle.del_geo_core.specs.declared.vec3.V3.{V3}
+use Rattle.vec3.specs.declared.V3.{V3}
 
 -- how many there are
 abbrev pub verticesOf : (vtx2xyz : List Float) → ℕ

@@ -4,7 +4,7 @@ ghost use Prim.Native.Nat.{_+_, _*_, _<_};
 ghost use lib.Ieee.{binary64};
 ghost use lib.ListN.{length};
 ghost use Rattle.places.specs.Places.{addAt, addVertex, addedOf};
-use del_geo_core::vec3::V3;
+use vec3::V3;
 
 fn add_at(values: &mut [f64], i: usize, x: f64)
     requires { ⌜ i < length (now values) ⌝ }

@@ -13,9 +13,9 @@ use del_geo_core::tri2;
 use del_geo_core::tri2::Tri2;
 use del_geo_core::tri2::V2;
 use del_geo_core::tri3::Tri3;
-use del_geo_core::vec3::V3;
 use plate_bending::Bending;
 use plate_shear::Shear;
+use vec3::V3;
 
 // What the energy and its derivatives are made of.
 pub struct State {

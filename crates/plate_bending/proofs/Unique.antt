@@ -7,7 +7,7 @@ use Rattle.float.specs.Lists.{_!_}
 use Rattle.float.proofs.Unique.{only}
 use Rattle.del_geo_core.specs.declared.mat3_row_major.Matrix3.{Matrix3}
 use Rattle.del_geo_core.specs.declared.tri3.Tri3.{Tri3}
-use Rattle.del_geo_core.specs.declared.vec3.V3.{V3}
+use Rattle.vec3.specs.declared.V3.{V3}
 use Rattle.edges.specs.declared.GuGu.{GuGu}
 use Rattle.plate_bending.specs.Bending.{bendingOf, t0s, dstrainOf, wOf, dwOf, ddwOf}
 use Rattle.plate_bending.specs.declared.Bending.{Bending}

@@ -5,10 +5,10 @@ use lib.Ieee.{Float, Format, neg}
 use Rattle.float.specs.Ops.{Ops, ops}
 use Rattle.root.specs.Root.{rootOf}
 use Rattle.del_geo_core.specs.Mat3RowMajor.{multVecOf}
-use Rattle.del_geo_core.specs.Vec3.{dotOf}
+use Rattle.vec3.specs.Vec3.{dotOf}
 use Rattle.del_geo_core.specs.declared.mat3_row_major.Matrix3.{Matrix3}
 use Rattle.del_geo_core.specs.declared.tri3.Tri3.{Tri3}
-use Rattle.del_geo_core.specs.declared.vec3.V3.{V3}
+use Rattle.vec3.specs.declared.V3.{V3}
 use Rattle.edges.specs.declared.GuGu.{GuGu}
 use Rattle.plate_bending.specs.declared.Bending.{Bending}
 

@@ -6,9 +6,8 @@ ghost use Rattle.plate_bending.specs.Bending.{coeffaOf, coeffbOf, deDtOf
 use del_geo_core::mat3_row_major;
 use del_geo_core::mat3_row_major::Matrix3;
 use del_geo_core::tri3::Tri3;
-use del_geo_core::vec3;
-use del_geo_core::vec3::V3;
 use edges::GuGu;
+use vec3::V3;
 
 // What the block has before its loop; de_dt is de_rr_dt, de_ss_dt, de_rs_dt.
 pub struct Bending {

@@ -10,7 +10,7 @@ use Rattle.float.specs.Ops.{Ops, ops}
 use Rattle.float.specs.Numbers.{isZero}
 use Rattle.float.specs.Lists.{_!_, _!!_, allFinite, table, each}
 use Rattle.root.specs.Root.{rootOf}
-use Rattle.del_geo_core.specs.Vec3.{dotOf, subOf}
+use Rattle.vec3.specs.Vec3.{dotOf, subOf}
 use Rattle.del_geo_core.specs.Tri3.{areaOf}
 use Rattle.corners.specs.Space.{pointOf, pointFinite}
 use Rattle.del_geo_core.specs.Edge.{lengthOf}

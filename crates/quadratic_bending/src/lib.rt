@@ -7,9 +7,8 @@ ghost use Rattle.quadratic_bending.specs.Bending.{cornersOf, isFiniteOf,
 use corners::space;
 use del_geo_core::edge;
 use del_geo_core::tri3;
-use del_geo_core::vec3;
-use del_geo_core::vec3::V3;
 use refusal::Tests;
+use vec3::V3;
 
 // The shared edge runs from corner 2 to corner 3; corners 0 and 1 stand across it.
 struct Fold {

@@ -6,8 +6,7 @@ use del_geo_core::curve_linear_coords;
 use del_geo_core::edge;
 use del_geo_core::tri2;
 use del_geo_core::tri3;
-use del_geo_core::vec3;
-use del_geo_core::vec3::V3;
+use vec3::V3;
 
 // 0 where the number is no helper's.
 pub(crate) fn inputs(helper: u64) -> usize

@@ -1,6 +1,6 @@
 // Answer lines on standard output: words of 16 lower-case hexadecimal digits with one space between.
-use del_geo_core::vec3::V3;
 use libc::STDOUT_FILENO;
+use vec3::V3;
 
 pub(crate) fn start_line(number: u64) {
     io::print_hex(STDOUT_FILENO, number, 16);

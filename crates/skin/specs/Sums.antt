@@ -6,7 +6,7 @@ use lib.ListN.{replicate}
 use Rattle.float.specs.Lists.{foldThrees, mapThrees}
 use Rattle.float.specs.Ops.{Ops, ops}
 use Rattle.refusal.specs.declared.Energy.{Energy}
-use Rattle.del_geo_core.specs.declared.vec3.V3.{V3}
+use Rattle.vec3.specs.declared.V3.{V3}
 use Rattle.places.specs.Places.{addTriangle}
 use Rattle.places.specs.Space.{pointAt}
 

@@ -9,12 +9,12 @@ ghost use Rattle.places.specs.Places.{addedOf};
 ghost use Rattle.places.specs.Space.{pointAt, cornersAt};
 ghost use Rattle.skin.specs.Skin.{badLengthOf, badSumOf, earlyOf, answerOf, IsSkin};
 ghost use Rattle.skin.specs.Parts.{refusedOf};
-use del_geo_core::vec3::V3;
 use refusal::ACCEPTED;
 use refusal::BAD_ANSWER;
 use refusal::BAD_LENGTH;
 use refusal::BAD_NAME;
 use refusal::Energy;
+use vec3::V3;
 
 // The refusal number; where the triangle that was refused stands in the list, counted from 0, or how many there are where only a sum was, and 0 after 0, 1 and 2; the energy.
 pub struct Skin {

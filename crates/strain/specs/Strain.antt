@@ -4,10 +4,10 @@ use mathlib.Core.List.{List, [], _∷_, _++_}
 use lib.Ieee.{Float, Format, neg}
 use Rattle.float.specs.Ops.{Ops, ops}
 use Rattle.del_geo_core.specs.CurveLinearCoords.{contravariantOf}
-use Rattle.del_geo_core.specs.Vec3.{dotOf, crossOf, normOf, overOf, unitOf}
+use Rattle.vec3.specs.Vec3.{dotOf, crossOf, normOf, overOf, unitOf}
 use Rattle.del_geo_core.specs.declared.tri2.Tri2.{Tri2}
 use Rattle.del_geo_core.specs.declared.tri3.Tri3.{Tri3}
-use Rattle.del_geo_core.specs.declared.vec3.V3.{V3}
+use Rattle.vec3.specs.declared.V3.{V3}
 use Rattle.edges.specs.Edges.{planeOf, spaceOf, glstrainOf}
 use Rattle.edges.specs.declared.Gd.{Gd}
 use Rattle.edges.specs.declared.Gu.{Gu}

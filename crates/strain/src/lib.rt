@@ -6,11 +6,10 @@ ghost use Rattle.strain.specs.Strain.{restOf, restOfGreenLagrange, gugu0
 use del_geo_core::curve_linear_coords;
 use del_geo_core::tri2::Tri2;
 use del_geo_core::tri3::Tri3;
-use del_geo_core::vec3;
-use del_geo_core::vec3::Divided;
-use del_geo_core::vec3::V3;
 use edges::Gd;
 use edges::Gu;
+use vec3::Divided;
+use vec3::V3;
 
 // The rest triangle: its edges, its unit normal with what divided it, and two contravariant vectors, 1 long as `rest_of` makes them and 1 / height as `rest_of_green_lagrange` does.
 pub struct Rest {

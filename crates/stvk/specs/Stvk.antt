@@ -9,11 +9,11 @@ use Rattle.float.specs.Ops.{Ops, ops}
 use Rattle.del_geo_core.specs.CurveLinearCoords.{contravariantOf}
 use Rattle.del_geo_core.specs.Mat3RowMajor.{multVecOf}
 use Rattle.del_geo_core.specs.Tri3.{unitNormalAreaOf}
-use Rattle.del_geo_core.specs.Vec3.{dotOf}
+use Rattle.vec3.specs.Vec3.{dotOf}
 use Rattle.del_geo_core.specs.declared.mat3_row_major.Matrix3.{Matrix3}
 use Rattle.del_geo_core.specs.declared.tri2.V2.{V2}
 use Rattle.del_geo_core.specs.declared.tri3.Tri3.{Tri3}
-use Rattle.del_geo_core.specs.declared.vec3.V3.{V3}
+use Rattle.vec3.specs.declared.V3.{V3}
 use Rattle.edges.specs.Edges as edges
 use Rattle.edges.specs.declared.Gd.{Gd}
 use Rattle.edges.specs.declared.Gu.{Gu}

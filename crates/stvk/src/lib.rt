@@ -13,11 +13,10 @@ use del_geo_core::mat3_row_major::Matrix3;
 use del_geo_core::tri2::V2;
 use del_geo_core::tri3;
 use del_geo_core::tri3::Tri3;
-use del_geo_core::vec3;
-use del_geo_core::vec3::Divided;
-use del_geo_core::vec3::V3;
 use edges::Gd;
 use edges::Gu;
+use vec3::Divided;
+use vec3::V3;
 
 // Of the rest corners: gd0[0] and gd0[1]; gd0[2], with what divided it; area0; gu0.
 pub struct Rest {

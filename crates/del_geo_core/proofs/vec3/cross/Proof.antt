@@ -1,7 +1,0 @@
--- `vec3::cross` meets its contract: the code is the definition, operation for operation.
-use mathlib.Core.Path.{refl}
-use Rattle.del_geo_core.proofs.vec3.cross.Statement.{statement}
-use Rattle.del_geo_core.proofs.vec3.cross.Tie as tie
-
-pub cross-spec : {M : Type 1} → statement M
-cross-spec = tie.close (tie.spec (λ c. refl))

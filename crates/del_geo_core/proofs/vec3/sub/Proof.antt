@@ -1,7 +1,0 @@
--- `vec3::sub` meets its contract: the code is the definition, operation for operation.
-use mathlib.Core.Path.{refl}
-use Rattle.del_geo_core.proofs.vec3.sub.Statement.{statement}
-use Rattle.del_geo_core.proofs.vec3.sub.Tie as tie
-
-pub sub-spec : {M : Type 1} → statement M
-sub-spec = tie.close (tie.spec (λ c. refl))

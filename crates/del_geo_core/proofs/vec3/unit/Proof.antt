@@ -1,8 +1,0 @@
--- `vec3::unit` meets its contract: what its calls ensure, put in one after the other, is the definition.
-use Rattle.del_geo_core.specs.Vec3.{unitOf}
-use Rattle.del_geo_core.proofs.vec3.unit.Statement.{statement}
-use Rattle.del_geo_core.proofs.vec3.unit.Tie as tie
-
-pub unit-spec : {M : Type 1} → statement M
-unfolding unitOf
-unit-spec = tie.close (tie.spec (λ c κs. tt) (λ c κs. tt) (λ c. rw (c .over .ensures, c .before .norm .ensures)))
