@@ -29,7 +29,8 @@ use Rattle.strain.specs.Strain as strain
 use Rattle.stvk.specs.Stvk as energy
 use Rattle.stvk_tri3.specs.Strain as strains
 use Rattle.stvk_tri3.specs.Stvk as stvks
-use Rattle.quadratic_bending.specs.Bending as bending
+use Rattle.bending.specs.Bending as bending
+use Rattle.quadratic_bending.specs.Bending as quadratic
 use Rattle.examples.specs.Words.{double, +0, +1, +2}
 use Rattle.examples.specs.Table.{Hold, p, u, plate, p0, p1, stvk, tableOf, table}
 
@@ -77,8 +78,8 @@ unfolding tableOf sub mul div ofBits toBits every tabled each fold foldThrees ro
     bend.bendingOf bend.t0s bend.wOf shear.shearOf shear.rs shear.ss shear.wOf plates.gdOf
     edges.guGuOf plates.guOf plates.stateOf plates.accumulatedOf plates.wOf addVertex addTriangle cornersAt badLengthOf namedFinite badInputOf massOf addMasses addAll massesOf
     numberOf bufferOf leftOf zeroDivisorOf edges.planeOf edges.spaceOf edges.glstrainOf strain.restOf strain.gugu0Of strain.wOf strain.hogeOf strain.dwKOf strain.dwOf strain.valuesOf strain.restOfGreenLagrange strains.testedOf strains.testsOf strains.strainOf strains.answerOf energy.atOf energy.alongOf
-    energy.restOf energy.glstrainOf energy.gugu0Of energy.elasticityTensorOf energy.stateOf energy.wOf energy.dNdrOf energy.dwAtOf energy.dwOf bending.isFiniteOf
-    bending.divisorsOf bending.kOf bending.wOf bending.dwdpOf bending.wdwOf bending.testsOf bending.bendingOf bending.answerOf
+    energy.restOf energy.glstrainOf energy.gugu0Of energy.elasticityTensorOf energy.stateOf energy.wOf energy.dNdrOf energy.dwAtOf energy.dwOf quadratic.isFiniteOf
+    bending.divisorsOf bending.kOf bending.wOf bending.dwdpOf bending.wdwOf quadratic.testsOf quadratic.bendingOf quadratic.answerOf
 numbers-given = refl
 
 -- THE theorem of the marked examples

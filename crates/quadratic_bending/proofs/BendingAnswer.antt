@@ -9,7 +9,8 @@ use Rattle.float.proofs.Unique.{only}
 use Rattle.refusal.specs.Refusal.{accepted, kernelRows, Exactly}
 use Rattle.refusal.proofs.KernelNumber.{kernel-exactly}
 use Rattle.quadratic_bending.specs.declared.Bending.{Bending}
-use Rattle.quadratic_bending.specs.Bending.{cornersOf, wdwOf, testsOf, bendingOf, answerOf, IsBending}
+use Rattle.bending.specs.Bending.{wdwOf}
+use Rattle.quadratic_bending.specs.Bending.{cornersOf, testsOf, bendingOf, answerOf, IsBending}
 
 -- no second answer fits
 pub unique : (f : Format) (pIni pDef : List (List Float)) {r q : Bending} → IsBending f pIni pDef r → IsBending f pIni pDef q → r ≡ q

@@ -1,6 +1,7 @@
 -- `wdw` meets its contract: what its calls ensure, put in one after the other, is the definition.
 use borrow.Author.Needs.{needs}
-use Rattle.quadratic_bending.specs.Bending.{wdwOf, testsOf, answerOf}
+use Rattle.bending.specs.Bending.{wdwOf}
+use Rattle.quadratic_bending.specs.Bending.{testsOf, answerOf}
 use Rattle.quadratic_bending.proofs.wdw.Statement.{statement}
 use Rattle.quadratic_bending.proofs.wdw.Tie as tie
 

@@ -1,4 +1,4 @@
--- `dwdp` meets its contract: the turns store each corner's factor at its place, and what no turn reaches stays +0.
+-- `bending::dwdp` meets its contract: the turns store each corner's factor at its place, and what no turn reaches stays +0.
 use mathlib.Core.Path.{_≡_, refl}
 use Prim.Native.Nat.{ℕ, _+_, _*_, _-_, _≤_}
 use native.Mathlib.Omega.{arith}
@@ -7,9 +7,9 @@ use lib.ListN.{replicate}
 use Rattle.float.specs.Ops.{ops}
 use Rattle.float.specs.Lists.{_!_, table, each}
 use Rattle.float.proofs.Fill.{run, run-more, rows, rows-more}
-use Rattle.quadratic_bending.specs.Bending.{dwdpOf}
-use Rattle.quadratic_bending.proofs.dwdp.Statement.{statement}
-use Rattle.quadratic_bending.proofs.dwdp.Tie as tie
+use Rattle.bending.specs.Bending.{dwdpOf}
+use Rattle.bending.proofs.dwdp.Statement.{statement}
+use Rattle.bending.proofs.dwdp.Tie as tie
 
 abbrev place : ℕ → ℕ → ℕ
 place iDim node = (iDim * 4 + node) * 3 + iDim

@@ -1,7 +1,7 @@
--- `divisors_of` meets its contract: what its calls ensure, put in one after the other, is the definition.
-use Rattle.quadratic_bending.specs.Bending.{divisorsOf}
-use Rattle.quadratic_bending.proofs.divisors_of.Statement.{statement}
-use Rattle.quadratic_bending.proofs.divisors_of.Tie as tie
+-- `bending::divisors_of` meets its contract: what its calls ensure, put in one after the other, is the definition.
+use Rattle.bending.specs.Bending.{divisorsOf}
+use Rattle.bending.proofs.divisors_of.Statement.{statement}
+use Rattle.bending.proofs.divisors_of.Tie as tie
 
 pub divisors-of-spec : {M : Type 1} → statement M
 unfolding divisorsOf

@@ -1,7 +1,7 @@
--- `k` meets its contract: what its calls ensure, put in one after the other, is the definition.
-use Rattle.quadratic_bending.specs.Bending.{kOf}
-use Rattle.quadratic_bending.proofs.k.Statement.{statement}
-use Rattle.quadratic_bending.proofs.k.Tie as tie
+-- `bending::k` meets its contract: what its calls ensure, put in one after the other, is the definition.
+use Rattle.bending.specs.Bending.{kOf}
+use Rattle.bending.proofs.k.Statement.{statement}
+use Rattle.bending.proofs.k.Tie as tie
 
 pub k-spec : {M : Type 1} → statement M
 unfolding kOf
