@@ -5,4 +5,6 @@ use Rattle.edges.proofs.space.Tie as tie
 
 pub space-spec : {M : Type 1} → statement M
 unfolding spaceOf
-space-spec = tie.close (tie.spec (λ c κs. tt) (λ c κs. tt) (λ c. cc))
+space-spec = tie.close (tie.spec (λ c κs. tt) (λ c κs. tt)
+    (λ c. let sub = c .before in
+    rw (c .sub2 .ensures, sub .sub .ensures)))

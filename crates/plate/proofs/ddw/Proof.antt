@@ -68,4 +68,8 @@ ddw-spec = tie.close (tie.spec
     (λ c. let n = c .before .before .before .before .before .before .before .before .before .loop in
     let m = c .before .loop2 in
     (omega arith, rows-more place (entry _ (columnsOf _ _ _ _ _)) 9 _ (n .i) (m .j) (omega arith) (n .inv .1) (m .inv .1)))
-    (λ c. let n = c .before .loop in let e : n .i ≡ 9 = omega arith in done _ {at = columnsOf _ _ _ _ _} e (n .inv .1) (cc)))
+    (λ c. let n = c .before .loop in
+    let s2 = c .before .before in let s1 = s2 .before in let s0 = s1 .before in let b1 = s0 .before in let second = b1 .before in let b0 = second .before in
+    let e : n .i ≡ 9 = omega arith in
+    done _ {at = columnsOf _ _ _ _ _} e (n .inv .1)
+    (rw (s2 .dstrain5 .ensures, s1 .dstrain4 .ensures, s0 .dstrain3 .ensures, b1 .dstrain2 .ensures, second .t0-second .ensures, b0 .dstrain .ensures, b0 .before .t0-first .ensures))))

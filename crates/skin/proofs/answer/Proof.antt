@@ -6,4 +6,5 @@ use Rattle.skin.proofs.answer.Tie as tie
 
 pub answer-spec : {M : Type 1} → statement M
 unfolding answerOf
-answer-spec = tie.close (tie.spec (λ c κs. search needs) (λ c κs. search needs) (λ c κs. tt) (λ c. cc))
+answer-spec = tie.close (tie.spec (λ c κs. search needs) (λ c κs. search needs) (λ c κs. tt)
+    (λ c. rw (c .wdwddw- .ensures, c .before .corners-at2 .ensures, c .before .before .corners-at .ensures)))

@@ -5,10 +5,6 @@ use Rattle.strain.proofs.rest_of_green_lagrange.Tie as tie
 
 pub rest-of-green-lagrange-spec : {M : Type 1} → statement M
 unfolding restOfGreenLagrange
-rest-of-green-lagrange-spec = tie.close (tie.spec
-    (λ c κs. tt)
-    (λ c κs. tt)
-    (λ c κs. tt)
-    (λ c κs. tt)
-    (λ c κs. tt)
-    (λ c. cc))
+rest-of-green-lagrange-spec = tie.close (tie.spec (λ c κs. tt) (λ c κs. tt) (λ c κs. tt) (λ c κs. tt) (λ c κs. tt)
+    (λ c. let contravariant = c .before in let unit = contravariant .before in let cross = unit .before in let plane = cross .before in
+    rw (c .contravariant2 .ensures, contravariant .contravariant .ensures, unit .unit .ensures, cross .cross .ensures, plane .plane .ensures)))

@@ -5,8 +5,6 @@ use Rattle.strain.proofs.w.Tie as tie
 
 pub w-spec : {M : Type 1} → statement M
 unfolding wOf
-w-spec = tie.close (tie.spec
-    (λ c κs. tt)
-    (λ c κs. tt)
-    (λ c κs. tt)
-    (λ c. cc))
+w-spec = tie.close (tie.spec (λ c κs. tt) (λ c κs. tt) (λ c κs. tt)
+    (λ c. let dot2 = c .before in let dot = dot2 .before in
+    rw (c .dot3 .ensures, dot2 .dot2 .ensures, dot .dot .ensures)))
