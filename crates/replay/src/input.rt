@@ -9,12 +9,6 @@ pub(crate) struct Word {
     pub w: u64,
 }
 
-// Numbers from the front of the array, +0 behind them; not ok where the input ended before the last of them.
-pub(crate) struct Numbers {
-    pub ok: bool,
-    pub x: [f64; 24],
-}
-
 pub(crate) fn next_word() -> Word {
     let mut b = [0u8; 8];
     let n = io::read_full(STDIN_FILENO, &mut b);
@@ -30,9 +24,12 @@ fn index(w: u64) -> usize {
     w as usize
 }
 
-// The length of a list of the record.
-pub(crate) fn next_length() -> usize {
-    index(next_word().w)
+// The length of a list of the record, 4,097 for every longer one.
+pub(crate) fn next_length() -> usize
+    ensures { λ r. ⌜ r ≤ 4097 ⌝ }
+{
+    let n = index(next_word().w);
+    if n <= 4096 { n } else { 4097 }
 }
 
 // Whether the input had a word for every place.
@@ -56,30 +53,37 @@ pub(crate) fn fill_numbers(xs: &mut [f64]) -> bool {
     ok
 }
 
-// The next count numbers.
-pub(crate) fn next_numbers(count: usize) -> Numbers
-    requires { ⌜ count ≤ 24 ⌝ }
+// These take numbers from the i-th on.
+fn two(x: [f64; 24], i: usize) -> [f64; 2]
+    requires { ⌜ i ≤ 22 ⌝ }
 {
-    let mut x = [0.0; 24];
-    let ok = fill_numbers(&mut x[0..count]);
-    Numbers { ok, x }
+    [x[i], x[i + 1]]
 }
 
-// In rows of three, as the kernels take them.
-pub(crate) fn rows(x: [f64; 24]) -> [[f64; 3]; 8] {
-    [
-        [x[0], x[1], x[2]],
-        [x[3], x[4], x[5]],
-        [x[6], x[7], x[8]],
-        [x[9], x[10], x[11]],
-        [x[12], x[13], x[14]],
-        [x[15], x[16], x[17]],
-        [x[18], x[19], x[20]],
-        [x[21], x[22], x[23]],
-    ]
+fn three(x: [f64; 24], i: usize) -> [f64; 3]
+    requires { ⌜ i ≤ 21 ⌝ }
+{
+    [x[i], x[i + 1], x[i + 2]]
 }
 
 // The first six numbers as three plane points.
-pub(crate) fn plane(x: [[f64; 3]; 8]) -> [[f64; 2]; 3] {
-    [[x[0][0], x[0][1]], [x[0][2], x[1][0]], [x[1][1], x[1][2]]]
+pub(crate) fn plane(x: [f64; 24]) -> [[f64; 2]; 3] {
+    [two(x, 0), two(x, 2), two(x, 4)]
+}
+
+pub(crate) fn triangle(x: [f64; 24], i: usize) -> [[f64; 3]; 3]
+    requires { ⌜ i ≤ 15 ⌝ }
+{
+    [three(x, i), three(x, i + 3), three(x, i + 6)]
+}
+
+pub(crate) fn fold(x: [f64; 24], i: usize) -> [[f64; 3]; 4]
+    requires { ⌜ i ≤ 12 ⌝ }
+{
+    [
+        three(x, i),
+        three(x, i + 3),
+        three(x, i + 6),
+        three(x, i + 9),
+    ]
 }

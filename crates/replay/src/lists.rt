@@ -1,89 +1,95 @@
 // Records with lists, which are as long as the record says (docs/REPLAY.md): masses and whole skins.
+ghost use Prim.Native.Nat.{_+_, _≤_};
+ghost use lib.ListN.{length};
 use crate::input;
 use crate::output;
+use skin::Skin;
 
-fn put_masses(tri2vtx: &[usize], vtx2xy: &[f64], thick: f64, rho: f64, vtx2mass: &mut [f64]) {
-    let number = mitc_tri3::mass_lumped_plate_bending(tri2vtx, vtx2xy, thick, rho, vtx2mass);
-    output::start_line(number as u64);
-    output::put_all(vtx2mass);
-    output::end_line();
+// The numbers are the two that are no list's, the n of the first list, then a skin's second list. Masses have no place and no energy.
+fn run(skin: bool, n: usize, numbers: &[f64], tri2vtx: &[usize], buffer: &mut [f64]) -> Skin
+    requires { ⌜ 2 + n ≤ length (now numbers) ⌝ }
+{
+    let end = 2 + n;
+    let first = &numbers[2..end];
+    let a = numbers[0];
+    let b = numbers[1];
+    if skin {
+        return skin::wdw(first, &numbers[end..], tri2vtx, a, b, buffer);
+    }
+    let number = mitc_tri3::mass_lumped_plate_bending(tri2vtx, first, a, b, buffer);
+    Skin {
+        number,
+        place: 0,
+        w: 0.0,
+    }
 }
 
-fn put_skin(
-    vtx2ini: &[f64],
-    vtx2def: &[f64],
-    tri2vtx: &[usize],
-    lambda: f64,
-    myu: f64,
-    vtx2dw: &mut [f64],
-) {
-    let answer = skin::wdw(vtx2ini, vtx2def, tri2vtx, lambda, myu, vtx2dw);
-    output::start_line(answer.number as u64);
-    output::put_word(answer.place as u64);
-    output::put(answer.w);
-    output::put_all(vtx2dw);
+fn put(skin: bool, answer: Skin, buffer: &[f64]) {
+    output::start_line(answer.number);
+    if skin {
+        output::put_word(answer.place as u64);
+        output::put(answer.w);
+    }
+    output::put_all(buffer);
     output::end_line();
 }
 
 // Fills the lists from the input and writes the answer line; false where the input ended before their last word, and nothing is written then.
 fn is_filled(
     skin: bool,
-    first: &mut [f64],
-    second: &mut [f64],
+    n: usize,
+    numbers: &mut [f64],
     tri2vtx: &mut [usize],
     buffer: &mut [f64],
-    a: f64,
-    b: f64,
-) -> bool {
-    let ok = input::fill_numbers(first)
-        & input::fill_numbers(second)
+) -> bool
+    requires { ⌜ 2 + n ≤ length (now numbers) ⌝ }
+{
+    let ok = input::fill_numbers(numbers)
         & input::fill_names(tri2vtx)
         & input::fill_numbers(buffer);
-    if !ok {
-        return false;
+    if ok {
+        let answer = run(skin, n, numbers, tri2vtx, buffer);
+        put(skin, answer, buffer);
     }
-    if skin {
-        put_skin(first, second, tri2vtx, a, b, buffer);
-        return true;
-    }
-    put_masses(tri2vtx, first, a, b, buffer);
-    true
+    ok
 }
 
-// Whether there was a whole record; one with a list of more than 4,096 entries is none. Masses have one list of numbers beside the buffer, a skin has two.
-pub(crate) fn is_answered(skin: bool) -> bool {
-    let n = input::next_length();
-    let m = if skin { input::next_length() } else { 0 };
-    let t = input::next_length();
-    let b = input::next_length();
-    let read = input::next_numbers(2);
-    if 4096 < n {
-        return false;
-    }
-    if 4096 < m {
-        return false;
-    }
-    if 4096 < t {
-        return false;
-    }
-    if 4096 < b {
-        return false;
-    }
-    if !read.ok {
-        return false;
-    }
-    let x = read.x;
-    let mut first = [0.0; 4096];
-    let mut second = [0.0; 4096];
-    let mut tri2vtx = [0usize; 4096];
-    let mut buffer = [0.0; 4096];
+// Room for every length that is read.
+fn is_read(skin: bool, n: usize, m: usize, t: usize, b: usize) -> bool
+    requires { ⌜ n ≤ 4097 ⌝ }
+    requires { ⌜ m ≤ 4097 ⌝ }
+    requires { ⌜ t ≤ 4097 ⌝ }
+    requires { ⌜ b ≤ 4097 ⌝ }
+{
+    let mut numbers = [0.0; 8196];
+    let mut tri2vtx = [0usize; 4097];
+    let mut buffer = [0.0; 4097];
+    let end = 2 + n + m;
     is_filled(
         skin,
-        &mut first[0..n],
-        &mut second[0..m],
+        n,
+        &mut numbers[0..end],
         &mut tri2vtx[0..t],
         &mut buffer[0..b],
-        x[0],
-        x[1],
     )
+}
+
+// Masses have one list of numbers beside the buffer, a skin has two.
+fn second_length(skin: bool) -> usize
+    ensures { λ r. ⌜ r ≤ 4097 ⌝ }
+{
+    if skin {
+        return input::next_length();
+    }
+    0
+}
+
+// Whether there was a whole record; one with a list of more than 4,096 entries is none.
+pub(crate) fn is_answered(skin: bool) -> bool {
+    let n = input::next_length();
+    let m = second_length(skin);
+    let t = input::next_length();
+    let b = input::next_length();
+    let fits = (n <= 4096) & (m <= 4096) & (t <= 4096) & (b <= 4096);
+    fits && is_read(skin, n, m, t, b)
 }

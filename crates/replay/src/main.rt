@@ -1,5 +1,7 @@
 // Reads records of big-endian 64-bit words from standard input, runs each through the routine that its first word names, and writes an answer line for each
 // (docs/REPLAY.md). An end of the input between two records ends the run; any other is answered by the line `?` and the end.
+ghost use Prim.Native.Nat.{_≤_};
+
 mod helpers;
 mod input;
 mod kernels;
@@ -25,30 +27,26 @@ fn replay_root() -> bool {
     read.ok
 }
 
-fn replay_helper() -> bool {
-    let helper = input::next_word();
-    let count = helpers::inputs(helper.w);
-    let read = input::next_numbers(count);
-    let known = helper.ok & (0 < count) & read.ok;
+// A helper's record, or a kernel's, with so many numbers; none where the count is 0.
+fn replay_numbers(helper: bool, number: u64, count: usize) -> bool
+    requires { ⌜ count ≤ 24 ⌝ }
+{
+    let mut x = [0.0; 24];
+    let known = (0 < count) & input::fill_numbers(&mut x[0..count]);
     if known {
-        output::start_line(0);
-        let x = read.x;
-        helpers::answer(helper.w, input::rows(x));
+        if helper {
+            helpers::answer(number, x);
+        } else {
+            kernels::answer(number, x);
+        }
         output::end_line();
     }
     known
 }
 
-fn replay_kernel(kind: u64) -> bool {
-    let count = kernels::inputs(kind);
-    let read = input::next_numbers(count);
-    let known = (0 < count) & read.ok;
-    if known {
-        let x = read.x;
-        kernels::answer(kind, input::rows(x));
-        output::end_line();
-    }
-    known
+fn replay_helper() -> bool {
+    let helper = input::next_word();
+    helper.ok && replay_numbers(true, helper.w, helpers::inputs(helper.w))
 }
 
 fn replay(kind: u64) -> bool {
@@ -57,7 +55,7 @@ fn replay(kind: u64) -> bool {
         MASSES => lists::is_answered(false),
         SKIN => lists::is_answered(true),
         HELPER => replay_helper(),
-        _ => replay_kernel(kind),
+        _ => replay_numbers(false, kind, kernels::inputs(kind)),
     }
 }
 

@@ -2,8 +2,8 @@
 use libc::STDOUT_FILENO;
 use vec3::V3;
 
-pub(crate) fn start_line(number: u64) {
-    io::print_hex(STDOUT_FILENO, number, 16);
+pub(crate) fn start_line(number: u32) {
+    io::print_hex(STDOUT_FILENO, number as u64, 16);
 }
 
 pub(crate) fn put_word(w: u64) {
