@@ -5,5 +5,4 @@ use Rattle.stvk.proofs.w.Tie as tie
 
 pub w-spec : {M : Type 1} → statement M
 unfolding wOf
-w-spec = tie.close (tie.spec (λ c κs. tt) (λ c.
-    rw (c .dot .ensures)))
+w-spec = tie.close (tie.spec (λ c κs. tt) (λ c. cc))
