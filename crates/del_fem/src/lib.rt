@@ -1,5 +1,4 @@
 // What C and Rust link: each routine under one plain name, corners by reference, values into a lent array, the refusal number returned (include/del_fem.h).
-ghost use mathlib.Core.Path.{_≡_};
 ghost use lib.Ieee.{binary64};
 ghost use Rattle.root.specs.Root.{SquareRoot, SquareRootWord};
 ghost use Rattle.mitc_tri3.specs.Masses.{IsMasses};

@@ -15,7 +15,6 @@ use Rattle.rounding.specs.Exact.{Num, Equal, _⊞_, _⊟_, _⊠_, scale, signed
 use Rattle.rounding.specs.Whole.{unit}
 use Rattle.corners.specs.Plane as plane
 use Rattle.corners.specs.Space as space
-use Rattle.vec3.specs.Vec3 as vec3
 use Rattle.del_geo_core.specs.declared.tri2.Tri2.{Tri2}
 use Rattle.del_geo_core.specs.declared.tri3.Tri3.{Tri3}
 use Rattle.strain.specs.Strain.{restOfGreenLagrange, wOf, dwOf, valuesOf}

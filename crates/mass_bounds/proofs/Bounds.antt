@@ -10,7 +10,7 @@ use lib.Ieee.{Float, nan, Format, binary64, fits}
 use lib.Ieee.Bits.{is-true}
 use lib.Ieee.Scale.{finite}
 use borrow.Author.Tests.{not-false}
-use Rattle.float.specs.Lists.{_!_, allFinite, every, total}
+use Rattle.float.specs.Lists.{_!_, allFinite, total}
 use Rattle.float.proofs.Scan.{both, every-at, every-iff}
 use Rattle.refusal.specs.Refusal.{accepted}
 use Rattle.refusal.specs.Panel.{maxTriangles, badLengthOf, namesBelow}

@@ -1,5 +1,5 @@
-// The numbers of `w_dw_ddw_plate_bending` (mitc_tri3.rs): energy, gradient and Hessian of a plate triangle. The source's two blocks are the crates `plate_bending` and `plate_shear`;
-// here stand the sums over the points of both. An index 0, 1, 2 of the source is x, y, z here: gd[0][1] is gd.x.y.
+// The numbers of `w_dw_ddw_plate_bending` (mitc_tri3.rs): energy, gradient and Hessian of a plate triangle. The source's two blocks are the crates `plate_bending` and
+// `plate_shear`; here stand the sums over the points of both. An index 0, 1, 2 of the source is x, y, z here: gd[0][1] is gd.x.y.
 ghost use mathlib.Core.Path.{_≡_};
 ghost use Prim.Native.Nat.{_<_};
 ghost use lib.Ieee.{binary64};

@@ -54,7 +54,7 @@ fn is_filled(
     ok
 }
 
-// Room for every length that is read.
+// Whether the rest of the record was there: room for every length that is read, filled and answered.
 fn is_read(skin: bool, n: usize, m: usize, t: usize, b: usize) -> bool
     requires { ⌜ n ≤ 4097 ⌝ }
     requires { ⌜ m ≤ 4097 ⌝ }

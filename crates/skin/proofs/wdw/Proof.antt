@@ -1,6 +1,5 @@
 -- `skin::wdw` meets its contract: its tests are the early ones, in their order, and `add_all` does the rest.
 use mathlib.Core.Path.{sym, _∙_}
-use lib.Ieee.{binary64}
 use borrow.Author.Needs.{needs}
 use Rattle.skin.proofs.Sum.{refused-1, refused-2}
 use Rattle.skin.proofs.wdw.Statement.{statement}
