@@ -1,5 +1,5 @@
 /*
- * Answers a batch of mesh files from standard input by mesh_read, a line for each: `0 n m` or `8 place`. A case is its length, four bytes with the lowest first, and then its bytes
+ * Answers a batch of mesh files from standard input by del_fem_mesh_read, a line for each: `0 n m` or `8 place`. A case is its length, four bytes with the lowest first, and then its bytes
  * (meshes/README.md). Each file is read twice: from a block of just its length, where a checker of memory sees a byte read outside, and right before a page that may not be read.
  * Both answers have to be the same, and the file's bytes have to stay. Status 2: the batch is malformed.
  */
@@ -25,7 +25,7 @@ static void stop(int status, const char *why, unsigned long at) {
 
 static struct answer ask(const uint8_t *file, size_t len) {
     struct answer a = {99, 99, 99, 99};
-    a.number = mesh_read(file, len, &a.n, &a.m, &a.place);
+    a.number = del_fem_mesh_read(file, len, &a.n, &a.m, &a.place);
     return a;
 }
 

@@ -2,7 +2,7 @@
  * Calls an exported function many times, so that the instructions of one call can be counted as C sees it (docs/SPEED.md). Standard input holds runs of big-endian 64-bit words: the routine's number of
  * docs/REPLAY.md, how many calls, and 24 numbers by their bits, its inputs first; for masses in place of these the lengths of the two lists, thickness, density, the coordinates and the names; for a skin
  * how many numbers each of its point lists has, how many names, lambda, myu, the points at rest, those deformed and the names. A line for each run: the bits of the sum of what the calls gave.
- * `speed PATH CALLS` calls mesh_read on the file at PATH instead.
+ * `speed PATH CALLS` calls del_fem_mesh_read on the file at PATH instead.
  */
 #include "del_fem.h"
 #include <stdio.h>
@@ -54,28 +54,28 @@ static double call(uint64_t kind, const double x[24], uint64_t k) {
     memcpy(p, x, sizeof p);
     switch (kind) {
     case 1:
-        return root_sqrt(x[0]);
+        return del_fem_root_sqrt(x[0]);
     case 2:
         memcpy(a, x, sizeof a);
         memcpy(b, x + 12, sizeof b);
-        quadratic_bending_wdw((const double (*)[3])a, (const double (*)[3])b, v);
+        del_fem_quadratic_bending_wdw((const double (*)[3])a, (const double (*)[3])b, v);
         return v[k % 36 % 3] + v[3 + k % 36];
     case 3:
         memcpy(b, x + 6, 9 * sizeof *x);
-        stvk_tri3_wdw((const double (*)[2])p, (const double (*)[3])b, v);
+        del_fem_stvk_tri3_wdw((const double (*)[2])p, (const double (*)[3])b, v);
         return v[k % 27 % 3] + v[3 + k % 27];
     case 4:
         memcpy(a, x, 9 * sizeof *x);
         memcpy(b, x + 9, 9 * sizeof *x);
-        stvk_tri3_wdwddw_((const double (*)[3])a, (const double (*)[3])b, x[18], x[19], v);
+        del_fem_stvk_tri3_wdwddw_((const double (*)[3])a, (const double (*)[3])b, x[18], x[19], v);
         return v[0] + v[1 + at % 9] + v[10 + at];
     case 5:
         memcpy(b, x + 6, 9 * sizeof *x);
-        mitc_tri3_w_dw_ddw_plate_bending((const double (*)[2])p, (const double (*)[3])b, x[15], x[16], x[17], v);
+        del_fem_mitc_tri3_w_dw_ddw_plate_bending((const double (*)[2])p, (const double (*)[3])b, x[15], x[16], x[17], v);
         return v[0] + v[1 + at % 9] + v[10 + at];
     case 8:
         memcpy(b, x + 6, 9 * sizeof *x);
-        stvk_tri3_wdw_green_lagrange((const double (*)[2])p, (const double (*)[3])b, v);
+        del_fem_stvk_tri3_wdw_green_lagrange((const double (*)[2])p, (const double (*)[3])b, v);
         return v[k % 27 % 3] + v[3 + k % 27];
     default:
         return 0;
@@ -109,7 +109,7 @@ static double panel(uint64_t count) {
         tri[i] = whole();
     }
     for (uint64_t k = 0; k < count; k++) {
-        mitc_tri3_mass_lumped_plate_bending(tri, names, xy, coordinates, thick + s, rho, mass, places);
+        del_fem_mitc_tri3_mass_lumped_plate_bending(tri, names, xy, coordinates, thick + s, rho, mass, places);
         sum += places == 0 ? 0 : mass[places - 1];
         s += STEP;
     }
@@ -134,7 +134,7 @@ static double skin(uint64_t count) {
         tri[i] = whole();
     }
     for (uint64_t k = 0; k < count; k++) {
-        skin_wdw(ini, numbers, def, numbers, tri, names, lambda + s, myu, dw, numbers, &place, &w);
+        del_fem_skin_wdw(ini, numbers, def, numbers, tri, names, lambda + s, myu, dw, numbers, &place, &w);
         sum += w;
         sum += numbers == 0 ? 0 : dw[numbers - 1];
         s += STEP;
@@ -161,7 +161,7 @@ static int mesh(const char *path, const char *times) {
     uint32_t number = 0;
     size_t n = 0, m = 0, place = 0;
     for (unsigned long count = strtoul(times, NULL, 10); count > 0; count--) {
-        number = mesh_read(file, (size_t)len, &n, &m, &place);
+        number = del_fem_mesh_read(file, (size_t)len, &n, &m, &place);
     }
     printf("%lu %zu %zu %zu\n", (unsigned long)number, n, m, place);
     free(file);

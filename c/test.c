@@ -34,7 +34,7 @@ static const uint64_t NAN_BITS = 0x7FF8000000000000;
 
 /* both forms of the root, in bits */
 static void check_root(const char *what, uint64_t x, uint64_t want) {
-    check(what, bits(root_sqrt(of_bits(x))) == want && root_sqrt_word(x) == want);
+    check(what, bits(del_fem_root_sqrt(of_bits(x))) == want && del_fem_root_sqrt_word(x) == want);
 }
 
 static int all_plus_zero(const double *xs, int n) {
@@ -84,10 +84,10 @@ static void bending(void) {
     const double def[4][3] = {{0, 0, 1}, {0, 0, 0}, {0, 0, 0}, {0, 0, 0}};
     double values[DEL_FEM_BENDING_VALUES + 1];
     scribble(values, DEL_FEM_BENDING_VALUES + 1);
-    uint32_t number = quadratic_bending_wdw(ini, def, values);
+    uint32_t number = del_fem_quadratic_bending_wdw(ini, def, values);
     check("bending, example 11", number == DEL_FEM_ACCEPTED && bits(values[2]) == 0xBFEBB67AE8584CAA);
     check("bending writes no further", untouched(values + DEL_FEM_BENDING_VALUES, 1));
-    number = quadratic_bending_wdw(def, def, values);
+    number = del_fem_quadratic_bending_wdw(def, def, values);
     check("bending refuses an edge of length 0", number == DEL_FEM_ZERO_DIVISOR && all_plus_zero(values, DEL_FEM_BENDING_VALUES));
 }
 
@@ -97,10 +97,10 @@ static void strain(void) {
     const double flat[3][2] = {{0, 0}, {1, 0}, {2, 0}};
     double values[DEL_FEM_STRAIN_VALUES + 1];
     scribble(values, DEL_FEM_STRAIN_VALUES + 1);
-    uint32_t number = stvk_tri3_wdw(ini, def, values);
+    uint32_t number = del_fem_stvk_tri3_wdw(ini, def, values);
     check("strain, example 10", number == DEL_FEM_ACCEPTED && values[0] == 1.5 && values[1] == 0 && values[2] == 0);
     check("strain writes no further", untouched(values + DEL_FEM_STRAIN_VALUES, 1));
-    number = stvk_tri3_wdw(flat, def, values);
+    number = del_fem_stvk_tri3_wdw(flat, def, values);
     check("strain refuses a flat triangle", number == DEL_FEM_ZERO_DIVISOR && all_plus_zero(values, DEL_FEM_STRAIN_VALUES));
 }
 
@@ -109,14 +109,14 @@ static void green_lagrange(void) {
     const double def[3][3] = {{0, 0, 0}, {4, 0, 0}, {0, 1, 0}};
     const double flat[3][2] = {{0, 0}, {1, 0}, {2, 0}};
     double values[DEL_FEM_STRAIN_VALUES + 1];
-    uint32_t number = stvk_tri3_wdw(ini, def, values);
+    uint32_t number = del_fem_stvk_tri3_wdw(ini, def, values);
     check("strain, example 14", number == DEL_FEM_ACCEPTED && values[0] == 6 && values[1] == 0 && values[2] == 0);
     scribble(values, DEL_FEM_STRAIN_VALUES + 1);
-    number = stvk_tri3_wdw_green_lagrange(ini, def, values);
+    number = del_fem_stvk_tri3_wdw_green_lagrange(ini, def, values);
     check("Green-Lagrange strain, example 15", number == DEL_FEM_ACCEPTED && values[0] == 1.5 && values[1] == 0 && values[2] == 0);
     check("Green-Lagrange strain, xx by x of corners 0, 1 and 2", values[3] == -1 && values[6] == 1 && values[9] == 0);
     check("Green-Lagrange strain writes no further", untouched(values + DEL_FEM_STRAIN_VALUES, 1));
-    number = stvk_tri3_wdw_green_lagrange(flat, def, values);
+    number = del_fem_stvk_tri3_wdw_green_lagrange(flat, def, values);
     check("Green-Lagrange strain refuses a flat triangle", number == DEL_FEM_ZERO_DIVISOR && all_plus_zero(values, DEL_FEM_STRAIN_VALUES));
 }
 
@@ -126,10 +126,10 @@ static void stvk(void) {
     const double flat[3][3] = {{0, 0, 0}, {1, 0, 0}, {2, 0, 0}};
     double values[DEL_FEM_ENERGY_VALUES + 1];
     scribble(values, DEL_FEM_ENERGY_VALUES + 1);
-    uint32_t number = stvk_tri3_wdwddw_(p0, p1, 0, 1, values);
+    uint32_t number = del_fem_stvk_tri3_wdwddw_(p0, p1, 0, 1, values);
     check("StVK, example 9", number == DEL_FEM_ACCEPTED && values[0] == 1.125 && values[1] == -3 && values[4] == 3 && values[7] == 0);
     check("StVK writes no further", untouched(values + DEL_FEM_ENERGY_VALUES, 1));
-    number = stvk_tri3_wdwddw_(flat, p1, 0, 1, values);
+    number = del_fem_stvk_tri3_wdwddw_(flat, p1, 0, 1, values);
     check("StVK, example 12", number == DEL_FEM_ZERO_DIVISOR && all_plus_zero(values, DEL_FEM_ENERGY_VALUES));
 }
 
@@ -138,12 +138,12 @@ static void plate(void) {
     const double u[3][3] = {{0, 0, 0}, {1, 0, 0}, {0, 0, 0}};
     double values[DEL_FEM_ENERGY_VALUES + 1];
     scribble(values, DEL_FEM_ENERGY_VALUES + 1);
-    uint32_t number = mitc_tri3_w_dw_ddw_plate_bending(p, u, 2, 0, 1, values);
+    uint32_t number = del_fem_mitc_tri3_w_dw_ddw_plate_bending(p, u, 2, 0, 1, values);
     check("plate, example 8", number == DEL_FEM_ACCEPTED && values[0] == 2);
     check("plate writes no further", untouched(values + DEL_FEM_ENERGY_VALUES, 1));
-    number = mitc_tri3_w_dw_ddw_plate_bending(p, u, 0, 0, 1, values);
+    number = del_fem_mitc_tri3_w_dw_ddw_plate_bending(p, u, 0, 0, 1, values);
     check("plate, example 8 at thickness 0", number == DEL_FEM_ZERO_DIVISOR && all_plus_zero(values, DEL_FEM_ENERGY_VALUES));
-    number = mitc_tri3_w_dw_ddw_plate_bending(p, u, of_bits(0x7FF0000000000000), 0, 1, values);
+    number = del_fem_mitc_tri3_w_dw_ddw_plate_bending(p, u, of_bits(0x7FF0000000000000), 0, 1, values);
     check("plate, example 13", number == DEL_FEM_BAD_INPUT && all_plus_zero(values, DEL_FEM_ENERGY_VALUES));
 }
 
@@ -151,7 +151,7 @@ static const double XY[8] = {0, 0, 6, 0, 0, 6, 6, 6};
 
 static uint32_t masses_of(const size_t *tri2vtx, size_t len, double *mass) {
     scribble(mass, 13);
-    return mitc_tri3_mass_lumped_plate_bending(tri2vtx, len, XY, 8, 1, 2, mass, 12);
+    return del_fem_mitc_tri3_mass_lumped_plate_bending(tri2vtx, len, XY, 8, 1, 2, mass, 12);
 }
 
 static int are(const double *mass, const double *want) {
@@ -190,7 +190,7 @@ struct skin {
 static struct skin skin_of(size_t ini_len, const double *def, size_t def_len, const size_t *tri2vtx, size_t names, double lambda, size_t dw_len) {
     struct skin s = {.place = 99, .w = -7.5};
     scribble(s.dw, 14);
-    s.number = skin_wdw(REST, ini_len, def, def_len, tri2vtx, names, lambda, 1, s.dw, dw_len, &s.place, &s.w);
+    s.number = del_fem_skin_wdw(REST, ini_len, def, def_len, tri2vtx, names, lambda, 1, s.dw, dw_len, &s.place, &s.w);
     return s;
 }
 
@@ -270,9 +270,9 @@ static struct mesh mesh_of(const char *name, size_t len) {
     }
     a.len = fread(a.file, 1, len < sizeof a.file ? len : sizeof a.file, in);
     fclose(in);
-    a.read = mesh_read(a.file, a.len, &a.n, &a.m, &a.place);
-    a.points = mesh_points(a.file, a.len, &a.points_place, &a.points_length);
-    a.cells = mesh_cells(a.file, a.len, &a.cells_place, &a.cells_length);
+    a.read = del_fem_mesh_read(a.file, a.len, &a.n, &a.m, &a.place);
+    a.points = del_fem_mesh_points(a.file, a.len, &a.points_place, &a.points_length);
+    a.cells = del_fem_mesh_cells(a.file, a.len, &a.cells_place, &a.cells_length);
     return a;
 }
 
@@ -291,12 +291,12 @@ static int mesh_refused(struct mesh a, size_t place) {
 }
 
 static int no_coordinate(const uint8_t *points, size_t len, size_t point, size_t axis) {
-    double x = mesh_coordinate(points, len, point, axis);
+    double x = del_fem_mesh_coordinate(points, len, point, axis);
     return x != x;
 }
 
 static int no_name(const uint8_t *cells, size_t len, size_t triangle, size_t corner) {
-    return mesh_name(cells, len, triangle, corner) == DEL_FEM_NO_NAME;
+    return del_fem_mesh_name(cells, len, triangle, corner) == DEL_FEM_NO_NAME;
 }
 
 /* Counts, places and where the blocks begin are those of the table in meshes/README.md; the square is that of the scope's examples. */
@@ -323,31 +323,31 @@ static void meshes(void) {
     double vtx2xy[8], mass[13];
     int flat = 1, here = 1;
     for (size_t i = 0; i < 4; i++) {
-        vtx2xy[2 * i] = mesh_coordinate(points, square.points_length, i, 0);
-        vtx2xy[2 * i + 1] = mesh_coordinate(points, square.points_length, i, 1);
-        flat = flat && bits(mesh_coordinate(points, square.points_length, i, 2)) == 0;
+        vtx2xy[2 * i] = del_fem_mesh_coordinate(points, square.points_length, i, 0);
+        vtx2xy[2 * i + 1] = del_fem_mesh_coordinate(points, square.points_length, i, 1);
+        flat = flat && bits(del_fem_mesh_coordinate(points, square.points_length, i, 2)) == 0;
     }
     for (size_t i = 0; i < 6; i++) {
-        tri2vtx[i] = mesh_name(cells, square.cells_length, i / 3, i % 3);
+        tri2vtx[i] = del_fem_mesh_name(cells, square.cells_length, i / 3, i % 3);
     }
     check("coordinates of the square", memcmp(vtx2xy, XY, sizeof XY) == 0 && flat);
     check("names of the square", memcmp(tri2vtx, names, sizeof names) == 0);
     scribble(mass, 13);
     check("masses, example 3, from a mesh file",
-        mitc_tri3_mass_lumped_plate_bending(tri2vtx, 6, vtx2xy, 8, 1, 2, mass, 12) == DEL_FEM_ACCEPTED && are(mass, both) && untouched(mass + 12, 1));
+        del_fem_mitc_tri3_mass_lumped_plate_bending(tri2vtx, 6, vtx2xy, 8, 1, 2, mass, 12) == DEL_FEM_ACCEPTED && are(mass, both) && untouched(mass + 12, 1));
     for (size_t i = 1; i < 9; i++) {
-        here = here && bits(mesh_coordinate(any.file + any.points_place, any.points_length, i / 3, i % 3)) == far[i];
+        here = here && bits(del_fem_mesh_coordinate(any.file + any.points_place, any.points_length, i / 3, i % 3)) == far[i];
     }
     check("coordinates keep their bits", here && no_coordinate(any.file + any.points_place, any.points_length, 0, 0));
     check("no point 4 of 4", no_coordinate(points, 96, 4, 0));
     check("no axis 3", no_coordinate(points, 96, 0, 3) && no_coordinate(points, 96, 0, SIZE_MAX));
     check("no point where 24 times it is past the largest number", no_coordinate(points, 96, SIZE_MAX, 0) && no_coordinate(points, 96, SIZE_MAX / 24 + 1, 0));
-    check("no point where a byte of it is missing", no_coordinate(points, 95, 3, 0) && bits(mesh_coordinate(points, 95, 2, 1)) == bits(6));
+    check("no point where a byte of it is missing", no_coordinate(points, 95, 3, 0) && bits(del_fem_mesh_coordinate(points, 95, 2, 1)) == bits(6));
     check("no point in no bytes", no_coordinate(empty.file + empty.points_place, empty.points_length, 0, 0));
     check("no triangle 2 of 2", no_name(cells, 32, 2, 0));
     check("no corner 3", no_name(cells, 32, 0, 3) && no_name(cells, 32, 0, SIZE_MAX));
     check("no triangle where 16 times it is past the largest number", no_name(cells, 32, SIZE_MAX, 0) && no_name(cells, 32, SIZE_MAX / 16 + 1, 0));
-    check("no triangle where a byte of it is missing", no_name(cells, 31, 1, 0) && mesh_name(cells, 31, 0, 2) == 2);
+    check("no triangle where a byte of it is missing", no_name(cells, 31, 1, 0) && del_fem_mesh_name(cells, 31, 0, 2) == 2);
     check("no triangle in no bytes", no_name(empty.file + empty.cells_place, empty.cells_length, 0, 0));
 }
 

@@ -42,23 +42,23 @@ extern "C" {
 #define DEL_FEM_MAX_VERTICES 65536
 #define DEL_FEM_MAX_TRIANGLES 131072
 
-/* What mesh_name gives where there is no name: masses and skin refuse it, for no panel or skin has so many vertices. */
+/* What del_fem_mesh_name gives where there is no name: masses and skin refuse it, for no panel or skin has so many vertices. */
 #define DEL_FEM_NO_NAME ((size_t)0xFFFFFFFF)
 
 /*
  * IEEE 754's squareRoot, to nearest (01-scope 4). -0 gives -0; every NaN and everything below zero gives the NaN with the bits 0x7FF8000000000000. It refuses nothing.
  */
-double root_sqrt(double x);
+double del_fem_root_sqrt(double x);
 
 /* The same on bit patterns: w and the answer are the bits of a double. */
-uint64_t root_sqrt_word(uint64_t w);
+uint64_t del_fem_root_sqrt_word(uint64_t w);
 
 /*
  * How far two triangles bend about the edge that they share, from corner 2 to corner 3; corners 0 and 1 stand across it (01-scope 5.6). p_ini at rest, p_def deformed.
  * values: w[i_dim] at i_dim; dwdp[i_dim][node][dim] at 3 + (i_dim * 4 + node) * 3 + dim.
  * Returns 3; 4 where the edge's length, a triangle's height on it, or root(area0 + area1) times the length is zero; 5; else 0.
  */
-uint32_t quadratic_bending_wdw(const double p_ini[4][3], const double p_def[4][3], double values[DEL_FEM_BENDING_VALUES]);
+uint32_t del_fem_quadratic_bending_wdw(const double p_ini[4][3], const double p_def[4][3], double values[DEL_FEM_BENDING_VALUES]);
 
 /*
  * Three strains of a plane rest triangle that is deformed into space, and their derivatives by the deformed corners, as the original computes them (01-scope 5.4): the Green-Lagrange strain only
@@ -66,28 +66,28 @@ uint32_t quadratic_bending_wdw(const double p_ini[4][3], const double p_def[4][3
  * values: w[k] at k; dw[k][ino][idim] at 3 + (k * 3 + ino) * 3 + idim.
  * Returns 3; 4 where twice the rest area or a contravariant vector's norm is zero; 5; else 0.
  */
-uint32_t stvk_tri3_wdw(const double p_ini[3][2], const double p_def[3][3], double values[DEL_FEM_STRAIN_VALUES]);
+uint32_t del_fem_stvk_tri3_wdw(const double p_ini[3][2], const double p_def[3][3], double values[DEL_FEM_STRAIN_VALUES]);
 
 /*
  * The Green-Lagrange strain of such a triangle in its own axes, (F^T F - I) / 2, and its derivatives (01-scope 5.10).
  * values: xx, yy and twice xy at 0, 1, 2; dw as above.
  * Returns 3; 4 where the rest normal's norm or a dot that scales a contravariant vector is zero; 5; else 0.
  */
-uint32_t stvk_tri3_wdw_green_lagrange(const double p_ini[3][2], const double p_def[3][3], double values[DEL_FEM_STRAIN_VALUES]);
+uint32_t del_fem_stvk_tri3_wdw_green_lagrange(const double p_ini[3][2], const double p_def[3][3], double values[DEL_FEM_STRAIN_VALUES]);
 
 /*
  * The StVK energy of a triangle with the corners p0 at rest and p1 deformed, its gradient and Hessian by p1, for the Lame parameters lambda and myu (01-scope 5.5). No thickness enters.
  * values: w at 0; dw[ino][idim] at 1 + ino * 3 + idim; ddw[ino][jno][idim * 3 + jdim] at 10 + (ino * 3 + jno) * 9 + idim * 3 + jdim.
  * Returns 3; 4 where the rest normal's norm or a dot that scales a contravariant vector is zero; 5; else 0.
  */
-uint32_t stvk_tri3_wdwddw_(const double p0[3][3], const double p1[3][3], double lambda, double myu, double values[DEL_FEM_ENERGY_VALUES]);
+uint32_t del_fem_stvk_tri3_wdwddw_(const double p0[3][3], const double p1[3][3], double lambda, double myu, double values[DEL_FEM_ENERGY_VALUES]);
 
 /*
  * The energy of a plate of thickness thk over the plane corners p, its gradient and Hessian by u: at each corner the displacement in z and the rotations about x and y (01-scope 5.2).
  * values: w at 0; dw[ino][idof] at 1 + ino * 3 + idof; ddw[ino][jno][idof * 3 + jdof] at 10 + (ino * 3 + jno) * 9 + idof * 3 + jdof.
  * Returns 3; 4 where a dot of the inverse is zero; 5; else 0.
  */
-uint32_t mitc_tri3_w_dw_ddw_plate_bending(
+uint32_t del_fem_mitc_tri3_w_dw_ddw_plate_bending(
     const double p[3][2], const double u[3][3], double thk, double lambda, double myu, double values[DEL_FEM_ENERGY_VALUES]);
 
 /*
@@ -98,22 +98,22 @@ uint32_t mitc_tri3_w_dw_ddw_plate_bending(
  * vertices; 2 where a vertex that is named does not exist; 3 where thick, rho or a coordinate of a named vertex is not finite; 5; else 0.
  * vtx2mass holds the masses after 0, +0 throughout after 5, and what it held before after 1, 2 and 3.
  */
-uint32_t mitc_tri3_mass_lumped_plate_bending(const size_t *tri2vtx, size_t tri2vtx_len, const double *vtx2xy, size_t vtx2xy_len, double thick,
+uint32_t del_fem_mitc_tri3_mass_lumped_plate_bending(const size_t *tri2vtx, size_t tri2vtx_len, const double *vtx2xy, size_t vtx2xy_len, double thick,
     double rho, double *vtx2mass, size_t vtx2mass_len);
 
 /*
- * The StVK energy of a whole skin and its gradient by the deformed points, for the Lame parameters lambda and myu: what stvk_tri3_wdwddw_ gives for each triangle, added in the
+ * The StVK energy of a whole skin and its gradient by the deformed points, for the Lame parameters lambda and myu: what del_fem_stvk_tri3_wdwddw_ gives for each triangle, added in the
  * list's order from +0 (01-scope 5.8, 2.5). Each length counts entries.
  * vtx2ini, vtx2def: three coordinates for each vertex, at rest and deformed. tri2vtx: three vertices for each triangle. vtx2dw: three numbers for each vertex. place, w: one each.
  * Returns 1 where vtx2ini_len, vtx2def_len and vtx2dw_len are not the same or 3 does not divide them, where there are more than DEL_FEM_MAX_VERTICES vertices or
- * DEL_FEM_MAX_TRIANGLES triangles, or where 3 does not divide tri2vtx_len; 2 where a vertex that is named does not exist; what stvk_tri3_wdwddw_ returns for the first triangle in
+ * DEL_FEM_MAX_TRIANGLES triangles, or where 3 does not divide tri2vtx_len; 2 where a vertex that is named does not exist; what del_fem_stvk_tri3_wdwddw_ returns for the first triangle in
  * the list that it refuses (5 also where only that triangle's Hessian is not finite); 5 where it refuses none, but the energy or an entry of the gradient is not finite; else 0.
  * Nothing but triangles looks at lambda, myu and the points: an empty list is accepted whatever they are.
  * vtx2dw holds the gradient after 0 (+0 at a vertex that is not named), +0 throughout after 3, 4 and 5, and what it held before after 1 and 2.
  * place and w are written by every call, whatever was in them. place: 0 after 0, 1 and 2; after 3, 4 and 5 that of the refused triangle in the list, counted from 0, or how many
  * triangles there are where none is refused. w: the energy after 0, +0 after a refusal.
  */
-uint32_t skin_wdw(const double *vtx2ini, size_t vtx2ini_len, const double *vtx2def, size_t vtx2def_len, const size_t *tri2vtx, size_t tri2vtx_len, double lambda,
+uint32_t del_fem_skin_wdw(const double *vtx2ini, size_t vtx2ini_len, const double *vtx2def, size_t vtx2def_len, const size_t *tri2vtx, size_t tri2vtx_len, double lambda,
     double myu, double *vtx2dw, size_t vtx2dw_len, size_t *place, double *w);
 
 /*
@@ -135,32 +135,32 @@ uint32_t skin_wdw(const double *vtx2ini, size_t vtx2ini_len, const double *vtx2d
  * its bytes are.
  *
  * file, points and cells are bytes, and each length counts them. What stands behind n, m, place and length is written by every call, whatever was in it. A file is read in one pass at
- * each call of mesh_read, mesh_points and mesh_cells.
+ * each call of del_fem_mesh_read, del_fem_mesh_points and del_fem_mesh_cells.
  */
 
 /* Returns 0: n and m are the counts of points and triangles, place is 0. Or 8: n and m are 0, place is where the file is refused. */
-uint32_t mesh_read(const uint8_t *file, size_t file_len, size_t *n, size_t *m, size_t *place);
+uint32_t del_fem_mesh_read(const uint8_t *file, size_t file_len, size_t *n, size_t *m, size_t *place);
 
 /*
  * Finds the points block, which stays where it is: nothing is copied.
  * Returns 0: it begins at file + place and has length bytes, 24 n, all of them in the file. Or 8: place is where the file is refused, length is 0.
  */
-uint32_t mesh_points(const uint8_t *file, size_t file_len, size_t *place, size_t *length);
+uint32_t del_fem_mesh_points(const uint8_t *file, size_t file_len, size_t *place, size_t *length);
 
 /* The same for the cells block, which has 16 m bytes. */
-uint32_t mesh_cells(const uint8_t *file, size_t file_len, size_t *place, size_t *length);
+uint32_t del_fem_mesh_cells(const uint8_t *file, size_t file_len, size_t *place, size_t *length);
 
 /*
- * Coordinate axis (0, 1, 2 for x, y, z) of a point, counted from 0, in a points block: file + place and length as mesh_points finds them. The sign of zero is kept.
+ * Coordinate axis (0, 1, 2 for x, y, z) of a point, counted from 0, in a points block: file + place and length as del_fem_mesh_points finds them. The sign of zero is kept.
  * It is a NaN, which kernels, masses and skin refuse where they read it, where the file has a NaN, where axis is above 2, and where the block has no such point; it refuses nothing itself.
  */
-double mesh_coordinate(const uint8_t *points, size_t points_len, size_t point, size_t axis);
+double del_fem_mesh_coordinate(const uint8_t *points, size_t points_len, size_t point, size_t axis);
 
 /*
- * The vertex that a triangle, counted from 0, names at a corner (0, 1, 2), in a cells block: file + place and length as mesh_cells finds them.
+ * The vertex that a triangle, counted from 0, names at a corner (0, 1, 2), in a cells block: file + place and length as del_fem_mesh_cells finds them.
  * It is DEL_FEM_NO_NAME where corner is above 2 and where the block has no such triangle.
  */
-size_t mesh_name(const uint8_t *cells, size_t cells_len, size_t triangle, size_t corner);
+size_t del_fem_mesh_name(const uint8_t *cells, size_t cells_len, size_t triangle, size_t corner);
 
 #ifdef __cplusplus
 }

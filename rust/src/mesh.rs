@@ -37,7 +37,7 @@ pub fn read(file: &[u8]) -> Result<Mesh, Refused> {
     let (mut points, mut triangles, mut place) = (0, 0, 0);
     // SAFETY: the pointer comes with its slice's own length; the others are to locals.
     let number = unsafe {
-        ffi::mesh_read(
+        ffi::del_fem_mesh_read(
             file.as_ptr(),
             file.len(),
             &mut points,
@@ -61,12 +61,12 @@ fn block(find: Finder, file: &[u8]) -> Result<&[u8], Refused> {
 
 /// The points of a file, as that very part of it: 24 bytes each. The whole file is read for it.
 pub fn points(file: &[u8]) -> Result<&[u8], Refused> {
-    block(ffi::mesh_points, file)
+    block(ffi::del_fem_mesh_points, file)
 }
 
 /// The cells of a file, as that very part of it: 16 bytes for each triangle. The whole file is read for it.
 pub fn cells(file: &[u8]) -> Result<&[u8], Refused> {
-    block(ffi::mesh_cells, file)
+    block(ffi::del_fem_mesh_cells, file)
 }
 
 /// Coordinate `axis` (0, 1, 2 for x, y, z) of a point, in the bytes that [`points`] hands back; a file's number may be a NaN. `None` where there is no such point or axis.
@@ -75,12 +75,12 @@ pub fn coordinate(points: &[u8], point: usize, axis: usize) -> Option<f64> {
         return None;
     }
     // SAFETY: the pointer comes with its slice's own length.
-    Some(unsafe { ffi::mesh_coordinate(points.as_ptr(), points.len(), point, axis) })
+    Some(unsafe { ffi::del_fem_mesh_coordinate(points.as_ptr(), points.len(), point, axis) })
 }
 
 /// The vertex that a triangle names at a corner (0, 1, 2), in the bytes that [`cells`] hands back. `None` where there is no such triangle or corner.
 pub fn name(cells: &[u8], triangle: usize, corner: usize) -> Option<usize> {
     // SAFETY: the pointer comes with its slice's own length.
-    let name = unsafe { ffi::mesh_name(cells.as_ptr(), cells.len(), triangle, corner) };
+    let name = unsafe { ffi::del_fem_mesh_name(cells.as_ptr(), cells.len(), triangle, corner) };
     (name != ffi::NO_NAME).then_some(name)
 }

@@ -14,7 +14,7 @@ pub fn w_dw_ddw_plate_bending(
     let mut values = [0.0; ffi::ENERGY_VALUES];
     // SAFETY: references to arrays of the declared shapes, the lent one a local of its own.
     let number =
-        unsafe { ffi::mitc_tri3_w_dw_ddw_plate_bending(&p, u, thk, lambda, myu, &mut values) };
+        unsafe { ffi::del_fem_mitc_tri3_w_dw_ddw_plate_bending(&p, u, thk, lambda, myu, &mut values) };
     Refusal::of(number)?;
     Ok(energy(&values))
 }
@@ -30,7 +30,7 @@ pub fn mass_lumped_plate_bending(
 ) -> Result<(), Refusal> {
     // SAFETY: each pointer comes with its slice's own length; the lent slice is borrowed alone.
     let number = unsafe {
-        ffi::mitc_tri3_mass_lumped_plate_bending(
+        ffi::del_fem_mitc_tri3_mass_lumped_plate_bending(
             tri2vtx.as_ptr(),
             tri2vtx.len(),
             vtx2xy.as_ptr(),

@@ -9,7 +9,7 @@ pub fn wdw(
 ) -> Result<([f64; 3], [[[f64; 3]; 4]; 3]), Refusal> {
     let mut values = [0.0; ffi::BENDING_VALUES];
     // SAFETY: references to arrays of the declared shapes, the lent one a local of its own.
-    let number = unsafe { ffi::quadratic_bending_wdw(p_ini, p_def, &mut values) };
+    let number = unsafe { ffi::del_fem_quadratic_bending_wdw(p_ini, p_def, &mut values) };
     Refusal::of(number)?;
     let [[w]] = blocks(&values[..3]);
     Ok((w, blocks(&values[3..])))

@@ -48,7 +48,7 @@ pub fn wdw(
     let (mut place, mut w) = (0, 0.0);
     // SAFETY: each pointer comes with its slice's own length; the lent slice is borrowed alone, place and w are locals.
     let number = unsafe {
-        ffi::skin_wdw(
+        ffi::del_fem_skin_wdw(
             vtx2ini.as_ptr(),
             vtx2ini.len(),
             vtx2def.as_ptr(),

@@ -9,7 +9,7 @@ pub type Strain = ([f64; 3], [[[f64; 3]; 3]; 3]);
 pub fn wdw(p_ini: &[[f64; 2]; 3], p_def: &[[f64; 3]; 3]) -> Result<Strain, Refusal> {
     let mut values = [0.0; ffi::STRAIN_VALUES];
     // SAFETY: references to arrays of the declared shapes, the lent one a local of its own.
-    let number = unsafe { ffi::stvk_tri3_wdw(p_ini, p_def, &mut values) };
+    let number = unsafe { ffi::del_fem_stvk_tri3_wdw(p_ini, p_def, &mut values) };
     strain(number, &values)
 }
 
@@ -17,7 +17,7 @@ pub fn wdw(p_ini: &[[f64; 2]; 3], p_def: &[[f64; 3]; 3]) -> Result<Strain, Refus
 pub fn wdw_green_lagrange(p_ini: &[[f64; 2]; 3], p_def: &[[f64; 3]; 3]) -> Result<Strain, Refusal> {
     let mut values = [0.0; ffi::STRAIN_VALUES];
     // SAFETY: references to arrays of the declared shapes, the lent one a local of its own.
-    let number = unsafe { ffi::stvk_tri3_wdw_green_lagrange(p_ini, p_def, &mut values) };
+    let number = unsafe { ffi::del_fem_stvk_tri3_wdw_green_lagrange(p_ini, p_def, &mut values) };
     strain(number, &values)
 }
 
@@ -36,7 +36,7 @@ pub fn wdwddw_(
 ) -> Result<Energy, Refusal> {
     let mut values = [0.0; ffi::ENERGY_VALUES];
     // SAFETY: references to arrays of the declared shapes, the lent one a local of its own.
-    let number = unsafe { ffi::stvk_tri3_wdwddw_(&p0, &p1, lambda, myu, &mut values) };
+    let number = unsafe { ffi::del_fem_stvk_tri3_wdwddw_(&p0, &p1, lambda, myu, &mut values) };
     Refusal::of(number)?;
     Ok(energy(&values))
 }

@@ -1,4 +1,4 @@
--- What `mesh_points` and `mesh_cells` find is the very block that mesh's own `points` and `cells` hand back: both go by one answer of the reader.
+-- What `del_fem_mesh_points` and `del_fem_mesh_cells` find is the very block that mesh's own `points` and `cells` hand back: both go by one answer of the reader.
 use mathlib.Core.Path.{_≡_, refl, sym, _∙_}
 use mathlib.Core.List.{List}
 use Prim.Native.Nat.{ℕ, _+_, _≤_}

@@ -21,27 +21,27 @@ use Rattle.mesh.specs.declared.Mesh.{Mesh}
 use Rattle.mesh.specs.declared.Mesh.the-variants.{Read, Refused}
 
 module _ (f : Format) where
-  -- THE statement of `quadratic_bending_wdw` (01-scope 5.6)
+  -- THE statement of `del_fem_quadratic_bending_wdw` (01-scope 5.6)
   abbrev pub IsBendingExport : (pIni pDef : List (List Float)) (r : ℕ) (values : List Float) → Type 0
   IsBendingExport pIni pDef = GivesBending (bending.answerOf f (bending.cornersOf pIni) (bending.cornersOf pDef))
 
-  -- THE statement of `stvk_tri3_wdw` (01-scope 5.4)
+  -- THE statement of `del_fem_stvk_tri3_wdw` (01-scope 5.4)
   abbrev pub IsStrainExport : (pIni pDef : List (List Float)) (r : ℕ) (values : List Float) → Type 0
   IsStrainExport pIni pDef = GivesStrain (strain.portedOf f (plane.cornersOf pIni) (space.cornersOf pDef))
 
-  -- THE statement of `stvk_tri3_wdw_green_lagrange` (01-scope 5.10)
+  -- THE statement of `del_fem_stvk_tri3_wdw_green_lagrange` (01-scope 5.10)
   abbrev pub IsGreenLagrangeExport : (pIni pDef : List (List Float)) (r : ℕ) (values : List Float) → Type 0
   IsGreenLagrangeExport pIni pDef = GivesStrain (greenLagrangeOf f (plane.cornersOf pIni) (space.cornersOf pDef))
 
-  -- THE statement of `stvk_tri3_wdwddw_` (01-scope 5.5)
+  -- THE statement of `del_fem_stvk_tri3_wdwddw_` (01-scope 5.5)
   abbrev pub IsStvkExport : (p0 p1 : List (List Float)) (lambda myu : Float) (r : ℕ) (values : List Float) → Type 0
   IsStvkExport p0 p1 lambda myu = GivesEnergy (stvkOf f (space.cornersOf p0) (space.cornersOf p1) lambda myu)
 
-  -- THE statement of `mitc_tri3_w_dw_ddw_plate_bending` (01-scope 5.2)
+  -- THE statement of `del_fem_mitc_tri3_w_dw_ddw_plate_bending` (01-scope 5.2)
   abbrev pub IsPlateExport : (p u : List (List Float)) (thk lambda myu : Float) (r : ℕ) (values : List Float) → Type 0
   IsPlateExport p u thk lambda myu = GivesEnergy (plateOf f (plane.cornersOf p) (space.cornersOf u) thk lambda myu)
 
-  -- THE statement of `skin_wdw` (01-scope 5.8, 2.5): the number, the place and the energy are those of skin's own answer
+  -- THE statement of `del_fem_skin_wdw` (01-scope 5.8, 2.5): the number, the place and the energy are those of skin's own answer
   abbrev pub IsSkinExport : (vtx2ini vtx2def : List Float) (tri2vtx : List ℕ) (lambda myu : Float) (before : List Float) (r place : ℕ) (w : Float) (after : List Float) → Type 0
   IsSkinExport vtx2ini vtx2def tri2vtx lambda myu before r place w = IsSkin f vtx2ini vtx2def tri2vtx lambda myu before (record { number = r; place = place; w = w })
 
@@ -49,7 +49,7 @@ module _ (f : Format) where
 abbrev pub lentOf : (number : ℕ) (values : List ℕ) → List ℕ
 lentOf number values = cond (eqb number accepted) (values ++ (0 ∷ [])) (0 ∷ 0 ∷ values)
 
--- THE statement of `mesh_read` (01-scope 5.9, 2.6)
+-- THE statement of `del_fem_mesh_read` (01-scope 5.9, 2.6)
 abbrev pub IsMeshExport : (file : List ℕ) (r n m place : ℕ) → Type 0
 IsMeshExport file r n m place = (r ≡ numberOf (meshOf file)) × (n ∷ m ∷ place ∷ [] ≡ lentOf (numberOf (meshOf file)) (valuesOf (meshOf file)))
 
@@ -65,7 +65,7 @@ cellsAt (Refused place) = (place, 0)
 abbrev pub GivesBlock : (at : Mesh → ℕ × ℕ) (file : List ℕ) (r place length : ℕ) → Type 0
 GivesBlock at file r place length = (r ≡ numberOf (meshOf file)) × (place ≡ at (meshOf file) .0) × (length ≡ at (meshOf file) .1)
 
--- THE statements of `mesh_points` and `mesh_cells` (01-scope 5.9): the bytes there are what mesh's own `points` and `cells` hand back (proofs/MeshBlocks.antt)
+-- THE statements of `del_fem_mesh_points` and `del_fem_mesh_cells` (01-scope 5.9): the bytes there are what mesh's own `points` and `cells` hand back (proofs/MeshBlocks.antt)
 abbrev pub IsPointsExport : (file : List ℕ) (r place length : ℕ) → Type 0
 IsPointsExport = GivesBlock pointsAt
 

@@ -9,7 +9,7 @@ use mesh::Mesh;
 
 // The root of x.
 #[no_mangle]
-pub extern "C" fn root_sqrt(x: f64) -> f64
+pub extern "C" fn del_fem_root_sqrt(x: f64) -> f64
     ensures { λ r. ⌜ SquareRoot binary64 x r ⌝ }
 {
     root::sqrt(x)
@@ -17,7 +17,7 @@ pub extern "C" fn root_sqrt(x: f64) -> f64
 
 // The root on bit patterns.
 #[no_mangle]
-pub extern "C" fn root_sqrt_word(w: u64) -> u64
+pub extern "C" fn del_fem_root_sqrt_word(w: u64) -> u64
     ensures { λ r. ⌜ SquareRootWord binary64 w r ⌝ }
 {
     root::sqrt_word(w)
@@ -25,7 +25,7 @@ pub extern "C" fn root_sqrt_word(w: u64) -> u64
 
 // Three bending values, then their 36 derivatives.
 #[no_mangle]
-pub extern "C" fn quadratic_bending_wdw(
+pub extern "C" fn del_fem_quadratic_bending_wdw(
     p_ini: &[[f64; 3]; 4],
     p_def: &[[f64; 3]; 4],
     values: &mut [f64; 39],
@@ -37,7 +37,7 @@ pub extern "C" fn quadratic_bending_wdw(
 
 // Three strains, then their 27 derivatives.
 #[no_mangle]
-pub extern "C" fn stvk_tri3_wdw(
+pub extern "C" fn del_fem_stvk_tri3_wdw(
     p_ini: &[[f64; 2]; 3],
     p_def: &[[f64; 3]; 3],
     values: &mut [f64; 30],
@@ -49,7 +49,7 @@ pub extern "C" fn stvk_tri3_wdw(
 
 // The three of the Green-Lagrange strain, then their 27 derivatives.
 #[no_mangle]
-pub extern "C" fn stvk_tri3_wdw_green_lagrange(
+pub extern "C" fn del_fem_stvk_tri3_wdw_green_lagrange(
     p_ini: &[[f64; 2]; 3],
     p_def: &[[f64; 3]; 3],
     values: &mut [f64; 30],
@@ -61,7 +61,7 @@ pub extern "C" fn stvk_tri3_wdw_green_lagrange(
 
 // The StVK energy, its gradient of 9, its Hessian of 81.
 #[no_mangle]
-pub extern "C" fn stvk_tri3_wdwddw_(
+pub extern "C" fn del_fem_stvk_tri3_wdwddw_(
     p0: &[[f64; 3]; 3],
     p1: &[[f64; 3]; 3],
     lambda: f64,
@@ -75,7 +75,7 @@ pub extern "C" fn stvk_tri3_wdwddw_(
 
 // The plate's energy, its gradient of 9, its Hessian of 81.
 #[no_mangle]
-pub extern "C" fn mitc_tri3_w_dw_ddw_plate_bending(
+pub extern "C" fn del_fem_mitc_tri3_w_dw_ddw_plate_bending(
     p: &[[f64; 2]; 3],
     u: &[[f64; 3]; 3],
     thk: f64,
@@ -93,7 +93,7 @@ pub extern "C" fn mitc_tri3_w_dw_ddw_plate_bending(
 
 // The lumped masses, three for each vertex.
 #[no_mangle]
-pub extern "C" fn mitc_tri3_mass_lumped_plate_bending(
+pub extern "C" fn del_fem_mitc_tri3_mass_lumped_plate_bending(
     tri2vtx: &[usize],
     vtx2xy: &[f64],
     thick: f64,
@@ -107,7 +107,7 @@ pub extern "C" fn mitc_tri3_mass_lumped_plate_bending(
 
 // The energy of a whole skin and the place of a refusal, each behind a reference, and the gradient, three numbers for each point.
 #[no_mangle]
-pub extern "C" fn skin_wdw(
+pub extern "C" fn del_fem_skin_wdw(
     vtx2ini: &[f64],
     vtx2def: &[f64],
     tri2vtx: &[usize],
@@ -128,7 +128,7 @@ pub extern "C" fn skin_wdw(
 
 // How many points and triangles a mesh file has, or the place where it is refused, each behind a reference.
 #[no_mangle]
-pub extern "C" fn mesh_read(file: &[u8], n: &mut usize, m: &mut usize, place: &mut usize) -> u32
+pub extern "C" fn del_fem_mesh_read(file: &[u8], n: &mut usize, m: &mut usize, place: &mut usize) -> u32
     ensures { λ r. ⌜ IsMeshExport (now (file .entry)) r (now (n .exit)) (now (m .exit)) (now (place .exit)) ⌝ }
 {
     match mesh::read(file) {
@@ -155,7 +155,7 @@ pub extern "C" fn mesh_read(file: &[u8], n: &mut usize, m: &mut usize, place: &m
 
 // Where the points of a mesh file begin and how many bytes they are; or the place where it is refused, and no byte.
 #[no_mangle]
-pub extern "C" fn mesh_points(file: &[u8], place: &mut usize, length: &mut usize) -> u32
+pub extern "C" fn del_fem_mesh_points(file: &[u8], place: &mut usize, length: &mut usize) -> u32
     ensures { λ r. ⌜ IsPointsExport (now (file .entry)) r (now (place .exit)) (now (length .exit)) ⌝ }
 {
     match mesh::read(file) {
@@ -180,7 +180,7 @@ pub extern "C" fn mesh_points(file: &[u8], place: &mut usize, length: &mut usize
 
 // The same for its cells.
 #[no_mangle]
-pub extern "C" fn mesh_cells(file: &[u8], place: &mut usize, length: &mut usize) -> u32
+pub extern "C" fn del_fem_mesh_cells(file: &[u8], place: &mut usize, length: &mut usize) -> u32
     ensures { λ r. ⌜ IsCellsExport (now (file .entry)) r (now (place .exit)) (now (length .exit)) ⌝ }
 {
     match mesh::read(file) {
@@ -203,17 +203,17 @@ pub extern "C" fn mesh_cells(file: &[u8], place: &mut usize, length: &mut usize)
     }
 }
 
-// Coordinate `axis` of a point, in the bytes that `mesh_points` finds.
+// Coordinate `axis` of a point, in the bytes that `del_fem_mesh_points` finds.
 #[no_mangle]
-pub extern "C" fn mesh_coordinate(points: &[u8], point: usize, axis: usize) -> f64
+pub extern "C" fn del_fem_mesh_coordinate(points: &[u8], point: usize, axis: usize) -> f64
     ensures { λ r. ⌜ IsCoordinate (now (points .entry)) point axis r ⌝ }
 {
     mesh::coordinate(points, point, axis)
 }
 
-// The vertex that a triangle names at a corner, in the bytes that `mesh_cells` finds.
+// The vertex that a triangle names at a corner, in the bytes that `del_fem_mesh_cells` finds.
 #[no_mangle]
-pub extern "C" fn mesh_name(cells: &[u8], triangle: usize, corner: usize) -> usize
+pub extern "C" fn del_fem_mesh_name(cells: &[u8], triangle: usize, corner: usize) -> usize
     ensures { λ r. ⌜ IsName (now (cells .entry)) triangle corner r ⌝ }
 {
     mesh::name(cells, triangle, corner)

@@ -1,12 +1,12 @@
--- `mesh_read` meets its contract: each of the reader's two answers is written out as the statement says.
+-- `del_fem_mesh_read` meets its contract: each of the reader's two answers is written out as the statement says.
 use mathlib.Core.Path.{refl, sym, _∙_}
 use borrow.Author.Needs.{needs}
 use Rattle.del_fem.proofs.MeshFile.{lent}
-use Rattle.del_fem.proofs.mesh_read.Statement.{statement}
-use Rattle.del_fem.proofs.mesh_read.Tie as tie
+use Rattle.del_fem.proofs.del_fem_mesh_read.Statement.{statement}
+use Rattle.del_fem.proofs.del_fem_mesh_read.Tie as tie
 
-pub mesh-read-spec : {M : Type 1} → statement M
-mesh-read-spec = tie.close (tie.spec
+pub del-fem-mesh-read-spec : {M : Type 1} → statement M
+del-fem-mesh-read-spec = tie.close (tie.spec
     (λ c κs. tt)
     (λ c. search needs)
     (λ c. search needs)

@@ -1,0 +1,9 @@
+-- `del_fem_mitc_tri3_w_dw_ddw_plate_bending` meets its contract: what the kernel answers, as `put_energy` puts it.
+use Rattle.del_fem.proofs.del_fem_mitc_tri3_w_dw_ddw_plate_bending.Statement.{statement}
+use Rattle.del_fem.proofs.del_fem_mitc_tri3_w_dw_ddw_plate_bending.Tie as tie
+
+pub del-fem-mitc-tri3-w-dw-ddw-plate-bending-spec : {M : Type 1} → statement M
+del-fem-mitc-tri3-w-dw-ddw-plate-bending-spec = tie.close (tie.spec
+    (λ c κs. tt)
+    (λ c κs. tt)
+    (λ c. rw (c .before .before .w-dw-ddw-plate-bending .ensures) at (c .put-energy .ensures)))

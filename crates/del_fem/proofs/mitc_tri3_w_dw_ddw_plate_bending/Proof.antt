@@ -1,9 +1,0 @@
--- `mitc_tri3_w_dw_ddw_plate_bending` meets its contract: what the kernel answers, as `put_energy` puts it.
-use Rattle.del_fem.proofs.mitc_tri3_w_dw_ddw_plate_bending.Statement.{statement}
-use Rattle.del_fem.proofs.mitc_tri3_w_dw_ddw_plate_bending.Tie as tie
-
-pub mitc-tri3-w-dw-ddw-plate-bending-spec : {M : Type 1} → statement M
-mitc-tri3-w-dw-ddw-plate-bending-spec = tie.close (tie.spec
-    (λ c κs. tt)
-    (λ c κs. tt)
-    (λ c. rw (c .before .before .w-dw-ddw-plate-bending .ensures) at (c .put-energy .ensures)))
