@@ -128,7 +128,12 @@ pub extern "C" fn del_fem_skin_wdw(
 
 // How many points and triangles a mesh file has, or the place where it is refused, each behind a reference.
 #[no_mangle]
-pub extern "C" fn del_fem_mesh_read(file: &[u8], n: &mut usize, m: &mut usize, place: &mut usize) -> u32
+pub extern "C" fn del_fem_mesh_read(
+    file: &[u8],
+    n: &mut usize,
+    m: &mut usize,
+    place: &mut usize,
+) -> u32
     ensures { λ r. ⌜ IsMeshExport (now (file .entry)) r (now (n .exit)) (now (m .exit)) (now (place .exit)) ⌝ }
 {
     match mesh::read(file) {

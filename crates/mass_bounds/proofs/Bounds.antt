@@ -27,8 +27,9 @@ use Rattle.mitc_tri3.specs.Masses.{badInputOf, bufferOf, IsMasses}
 use Rattle.mitc_tri3.proofs.MassesAnswer.{numbers-exactly, accepted-masses}
 use Rattle.mass_bounds.specs.Range.{wholeAt, inRange}
 use Rattle.mass_bounds.specs.Bounds.{NearExact, Demand3}
-use Rattle.mass_bounds.specs.Example.{names, untouched}
+use Rattle.mass_bounds.specs.Example.{names, firstNames, untouched, sharpPoints, sharpRho, sharpThick, sharpBefore}
 use Rattle.mass_bounds.proofs.RuledOut.{meets, right-lengths, right-names}
+use Rattle.mass_bounds.proofs.Sharp as sharp
 use Rattle.mass_bounds.proofs.Premises.{point, in-range}
 use Rattle.mass_bounds.proofs.Share.{Margins}
 use Rattle.mass_bounds.proofs.Vertex.{vertex}
@@ -106,3 +107,6 @@ demand-3 tri2vtx vtx2xy thick rho before is range = demand binary64 margins tri2
 
 pub met : NearExact binary64 names points thick rho (bufferOf binary64 names points thick rho untouched)
 met = let d = demand-3 names points thick rho untouched (refl, refl) meets in d .near (d .accepts right-lengths right-names)
+
+pub met-sharp : NearExact binary64 firstNames sharpPoints sharpThick sharpRho (bufferOf binary64 firstNames sharpPoints sharpThick sharpRho sharpBefore)
+met-sharp = let d = demand-3 firstNames sharpPoints sharpThick sharpRho sharpBefore (refl, refl) sharp.meets in d .near (d .accepts sharp.right-lengths sharp.right-names)

@@ -1,4 +1,6 @@
 pub mod RuledOut
+pub mod Sharp
+pub mod Names
 pub mod Premises
 pub mod Area
 pub mod Share

@@ -1,22 +1,25 @@
--- What 6.2 asks can be met, and `NearExact` is false of an untouched buffer, of zeros, and of the first triangle's masses alone (01-scope 8.2): at one place of each, by computing.
+-- What 6.2 asks can be met, and `NearExact` is false of an untouched buffer, of zeros, of the first triangle's masses alone, and of any one buffer for two panels (01-scope 8.2): at one
+-- place of each, by computing.
 use mathlib.Core.Path.{_≡_, refl}
 use mathlib.Core.Bool.{true, false}
-use Prim.Native.Nat.{_^_}
+use mathlib.Core.List.{List}
+use Prim.Native.Nat.{ℕ, _+_, _*_, _^_, _≤_, _<_}
 use lib.Dec.{lit<, le→leb}
-use lib.Ieee.{binary64, fits}
+use lib.Ieee.{Float, Format, binary64, prec, fits}
 use lib.ListN.{length}
 use Rattle.float.specs.Lists.{every, foldThrees}
 use Rattle.refusal.specs.Panel.{withinLimits, badLengthOf, namesBelow}
 use Rattle.places.specs.Plane.{verticesOf, cornersAt}
 use Rattle.places.specs.Vertex.{namedBy, givenTo}
-use Rattle.rounding.specs.Exact.{mag, sign, value}
+use Rattle.rounding.specs.Exact.{_⊟_, mag, sign, sizeOf, value}
 use Rattle.rounding.specs.Sums.{sumOf}
 use Rattle.rounding.specs.Whole.{isWholeUpTo}
+use Rattle.rounding.proofs.Error.{within-apart}
 use Rattle.mitc_tri3.specs.Example.{points, thick, rho}
 use Rattle.mass_bounds.specs.Range.{between, inRange}
-use Rattle.mass_bounds.specs.Shares.{twiceArea, weight, exactShare}
-use Rattle.mass_bounds.specs.Bounds.{NearExact}
-use Rattle.mass_bounds.specs.Example.{names, untouched, allZero, firstOnly}
+use Rattle.mass_bounds.specs.Shares.{namesOf, twiceArea, weight, exactShare, exactMass, sizes}
+use Rattle.mass_bounds.specs.Bounds.{roundings, NearExact}
+use Rattle.mass_bounds.specs.Example.{names, firstNames, untouched, allZero, firstOnly}
 
 pub meets : inRange binary64 1048576 (2 ^ 40) names points thick rho ≡ true
 unfolding inRange between isWholeUpTo every fits mag sign
@@ -42,3 +45,15 @@ not-zero h = le→leb _ _ (h .near 0 0 (lit< tt) (lit< tt) .within)
 pub not-first-only : NearExact binary64 names points thick rho firstOnly → ⊥
 unfolding value sumOf twiceArea weight exactShare givenTo namedBy cornersAt foldThrees
 not-first-only h = le→leb _ _ (h .near 3 0 (lit< tt) (lit< tt) .within)
+
+-- one buffer near the masses of two panels: at each place the exact masses are no further apart than both bounds together
+pub near-both : (f : Format) {tri2vtx tri2vtx' : List ℕ} {vtx2xy vtx2xy' : List Float} {thick thick' rho rho' : Float} {masses : List Float}
+    → NearExact f tri2vtx vtx2xy thick rho masses → NearExact f tri2vtx' vtx2xy' thick' rho' masses → (v k : ℕ) → v < verticesOf vtx2xy → v < verticesOf vtx2xy' → k < 3
+    → sizeOf (exactMass f tri2vtx vtx2xy thick rho k v ⊟ exactMass f tri2vtx' vtx2xy' thick' rho' k v) * 2 ^ prec f
+    ≤ (namesOf tri2vtx vtx2xy v + roundings k) * sizes f tri2vtx vtx2xy thick rho k v + (namesOf tri2vtx' vtx2xy' v + roundings k) * sizes f tri2vtx' vtx2xy' thick' rho' k v
+near-both f a b v k h h' k3 = within-apart (a .near v k h k3) (b .near v k h' k3)
+
+-- so no buffer, however it came about, is near the masses of both example 3 and example 1: vertex 1 has 24 in the one and 12 in the other
+pub no-constant : (masses : List Float) → NearExact binary64 names points thick rho masses → NearExact binary64 firstNames points thick rho masses → ⊥
+unfolding value sumOf twiceArea weight exactShare givenTo namedBy cornersAt foldThrees
+no-constant masses a b = le→leb _ _ (near-both binary64 a b 1 0 (lit< tt) (lit< tt) (lit< tt))

@@ -1,6 +1,8 @@
 -- Exact shares of mass (01-scope 6.1), from the coordinates. An exact number counts units of 2 ^ -low (`value`), a product of n of them units of 2 ^ -(n * low).
+use mathlib.Core.Bool.{cond}
 use mathlib.Core.List.{List}
 use Prim.Native.Nat.{ℕ, zero, suc, _*_, _^_}
+use lib.Dec.{eqb}
 use lib.Ieee.{Float, Format}
 use lib.ListN.{length}
 use Rattle.float.specs.Lists.{mapThrees}
@@ -15,9 +17,12 @@ use Rattle.masses.specs.Vertex.{trianglesOf}
 unfoldable pub triangles : (tri2vtx : List ℕ) (vtx2xy : List Float) → List Tri2
 triangles tri2vtx vtx2xy = mapThrees (cornersAt vtx2xy) tri2vtx
 
--- d: how often the list names vertex v
+-- d: how often the list names vertex v; where 3 divides its length, that is the count of v in it (proofs/Names.antt)
 abbrev pub namesOf : (tri2vtx : List ℕ) (vtx2xy : List Float) (v : ℕ) → ℕ
 namesOf tri2vtx vtx2xy v = length (trianglesOf v tri2vtx vtx2xy)
+
+abbrev pub countOf : (v : ℕ) (names : List ℕ) → ℕ
+countOf v names = sumOf (λ i. cond (eqb i v) 1 0) names
 
 module _ (f : Format) where
   -- twice the signed area

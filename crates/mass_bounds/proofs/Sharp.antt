@@ -1,0 +1,51 @@
+-- 6.2's bounds are not idle: on one panel each mass is more than (d + 1) / 2 ^ 53 off, and within d + 3 and d + 6, by computing.
+use mathlib.Core.Path.{_≡_, refl}
+use mathlib.Core.Bool.{true, false}
+use mathlib.Core.List.{List}
+use Prim.Native.Nat.{ℕ, _+_, _^_}
+use lib.Dec.{lit≤, le→leb}
+use lib.Ieee.{Float, binary64, fits, sub, mul, div, ofBits}
+use lib.ListN.{length}
+use Rattle.float.specs.Lists.{_!_, every, foldThrees}
+use Rattle.refusal.specs.Panel.{withinLimits, badLengthOf, namesBelow}
+use Rattle.places.specs.Plane.{verticesOf, cornersAt}
+use Rattle.places.specs.Places.{addVertex, addTriangle}
+use Rattle.places.specs.Vertex.{namedBy, givenTo}
+use Rattle.rounding.specs.Exact.{mag, sign, value}
+use Rattle.rounding.specs.Error.{Within}
+use Rattle.rounding.specs.Sums.{sumOf}
+use Rattle.rounding.specs.Whole.{isWholeUpTo}
+use Rattle.masses.specs.Masses.{massOf, addMasses, addAll, massesOf}
+use Rattle.mass_bounds.specs.Range.{between, inRange}
+use Rattle.mass_bounds.specs.Shares.{namesOf, twiceArea, weight, exactShare, over, exactMass, sizes}
+use Rattle.mass_bounds.specs.Bounds.{roundings}
+use Rattle.mass_bounds.specs.Example.{firstNames, sharpPoints, sharpRho, sharpThick, sharpBefore}
+
+abbrev stored : List Float
+stored = massesOf binary64 firstNames sharpPoints sharpThick sharpRho sharpBefore
+
+-- of vertex 0, with c for the 3 or the 6
+abbrev OffBy : (k c : ℕ) → Type 0
+OffBy k c = Within (2 ^ 53) (namesOf firstNames sharpPoints 0 + c) (over binary64 k) (value binary64 (stored ! k)) (exactMass binary64 firstNames sharpPoints sharpThick sharpRho k 0)
+    (sizes binary64 firstNames sharpPoints sharpThick sharpRho k 0)
+
+pub meets : inRange binary64 1048576 (2 ^ 40) firstNames sharpPoints sharpThick sharpRho ≡ true
+unfolding inRange between isWholeUpTo every fits mag sign ofBits
+meets = refl
+
+pub right-lengths : badLengthOf (verticesOf sharpPoints) (length firstNames) (length sharpBefore) ≡ false
+unfolding badLengthOf withinLimits
+right-lengths = refl
+
+pub right-names : namesBelow (verticesOf sharpPoints) firstNames ≡ true
+unfolding every
+right-names = refl
+
+pub held : OffBy 0 (roundings 0) × OffBy 1 (roundings 1)
+unfolding value sumOf twiceArea weight exactShare givenTo namedBy cornersAt foldThrees sub mul div ofBits massOf addMasses addAll massesOf addVertex addTriangle
+held = (record { within = lit≤ tt }, record { within = lit≤ tt })
+
+-- the translation is 2.32 / 2 ^ 53 off, the rotations 2.49, where d + 1 is 2
+pub sharp : (OffBy 0 1 → ⊥) × (OffBy 1 1 → ⊥)
+unfolding value sumOf twiceArea weight exactShare givenTo namedBy cornersAt foldThrees sub mul div ofBits massOf addMasses addAll massesOf addVertex addTriangle
+sharp = (λ h. le→leb _ _ (h .within), λ h. le→leb _ _ (h .within))
