@@ -10,8 +10,9 @@ use lib.Dec.{leb}
 use lib.ListN.{length, drop, length-append, drop-of-length-le}
 use lib.Seq.{drop-nil, drop-append-seam}
 use borrow.Author.Tests.{leb-true, leb-false, le-leb}
+use Rattle.float.specs.Text.{ascii}
 use Rattle.refusal.specs.Panel.{maxVertices, maxTriangles}
-use Rattle.mesh.specs.Text.{ascii, newline, count, pointsLine, cellsLine}
+use Rattle.mesh.specs.Text.{newline, count, pointsLine, cellsLine}
 use Rattle.mesh.specs.Items.{line, digits, countedAs, counted}
 use Rattle.mesh.specs.Rules.{RightLine, RightPoints, RightCells, LineRule}
 use Rattle.mesh.specs.declared.Step.{Step}

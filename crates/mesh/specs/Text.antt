@@ -2,17 +2,11 @@
 use mathlib.Core.Path.{_≡_}
 use mathlib.Core.Bool.{cond}
 use mathlib.Core.List.{List, [], _∷_, _++_}
-use Prim.Native.Char.{code}
 use Prim.Native.Nat.{ℕ, _+_, _*_, _/_, _%_}
-use Prim.Native.String.{String, [] as String·[], _∷_ as _String·∷_}
 use lib.Dec.{ltb}
 use lib.ListN.{length, take}
+use Rattle.float.specs.Text.{ascii}
 use Rattle.mesh.specs.declared.Line.{Line}
-
--- the codes of a text's characters
-abbrev pub ascii : String → List ℕ
-ascii String·[] = []
-ascii (c String·∷ s) = code c ∷ ascii s
 
 abbrev pub newline : List ℕ
 newline = ascii "\n"
