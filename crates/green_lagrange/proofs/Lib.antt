@@ -4,7 +4,8 @@ pub mod Powers
 pub mod Rest
 pub mod Corners
 pub mod Factors
-pub mod Values
 pub mod Gradient
+pub mod Places
+pub mod Values
 pub mod Theorem
 pub mod RuledOut

@@ -1,6 +1,6 @@
 -- The family has the sheet of the finding in it, its answer meets `IsBookStrain`, and the ported strain's answer does not: 6 in place of 1.5, by computing.
-use mathlib.Core.Path.{_≡_, refl}
-use mathlib.Core.Bool.{true, false≢true}
+use mathlib.Core.Path.{refl}
+use mathlib.Core.Bool.{false≢true}
 use lib.Dec.{lit≤}
 use lib.Ieee.{binary64, fits, sub, mul, div, ofBits}
 use borrow.Author.Tests.{eq-eqb}
@@ -19,19 +19,15 @@ use Rattle.stvk_tri3.specs.Example.{atRest, pulled}
 use Rattle.stvk_tri3.specs.GreenLagrange.{greenLagrangeOf}
 use Rattle.stvk_tri3.specs.Strain.{testedOf, testsOf, strainOf, answerOf, portedOf}
 use Rattle.green_lagrange.specs.Book.{IsBookStrain}
-use Rattle.green_lagrange.specs.Sheet.{isRest, isWhole}
+use Rattle.green_lagrange.specs.Sheet.{InFamily}
 use Rattle.green_lagrange.proofs.Theorem.{green-lagrange}
 
-at-rest : isRest binary64 2 1 (plane.cornersOf atRest) ≡ true
-unfolding isNatural fits value mag sign
-at-rest = refl
-
-whole : isWhole binary64 1024 (space.cornersOf pulled) ≡ true
-unfolding isWholeUpTo fits mag sign
-whole = refl
+in-family : InFamily binary64 1 0 (plane.cornersOf atRest) (space.cornersOf pulled)
+unfolding isNatural isWholeUpTo fits value mag sign
+in-family = record { sideX = lit≤ tt; sideY = lit≤ tt; rest = refl; deformed = refl }
 
 pub met : IsBookStrain binary64 2 1 (space.cornersOf pulled) (greenLagrangeOf binary64 (plane.cornersOf atRest) (space.cornersOf pulled))
-met = green-lagrange 1 0 (lit≤ tt) (lit≤ tt) atRest pulled refl at-rest whole
+met = green-lagrange atRest pulled refl in-family
 
 pub not-ported : IsBookStrain binary64 2 1 (space.cornersOf pulled) (portedOf binary64 (plane.cornersOf atRest) (space.cornersOf pulled)) → ⊥
 unfolding value mag sign sub mul div ofBits every rootOf firstOf kernelNumber zeroDivisorOf vec3.normOf vec3.overOf vec3.unitOf plane.isFiniteOf space.isFiniteOf edges.planeOf edges.spaceOf

@@ -1,18 +1,18 @@
--- The theorem of 01-scope 6.5: no test refuses a sheet of the family, and each value, exact over 2 a^2, 2 b^2 or 2 a b, is the fraction that the columns of F give.
+-- The theorem of 01-scope 6.5: no test refuses a sheet of the family; each value, exact over 2 a^2, 2 b^2 or 2 a b, is the fraction that the columns of F give, and each derivative, exact over
+-- a^2, b^2 or a b, the one that they and the slopes of the shape functions give.
 use mathlib.Core.Path.{_≡_, refl}
 use mathlib.Core.Bool.{true, false, not, _&&_}
 use mathlib.Core.List.{List}
 use Prim.Native.Nat.{ℕ, _*_, _^_, _≤_, _<_}
-use native.Mathlib.Nat.{mul-pos, mul-le-mul}
+use native.Mathlib.Nat.{mul-le-mul}
 use native.Mathlib.Omega.{arith}
-use lib.Dec.{lit≤, lit<}
+use lib.Dec.{lit<}
 use lib.Pow.{pow-pos, pow-mono}
 use lib.Ieee.{Float, Format, binary64}
 use Rattle.float.specs.Lists.{every, allFinite}
 use Rattle.float.proofs.Scan.{every-append}
 use Rattle.refusal.specs.Refusal.{accepted}
-use Rattle.rounding.specs.Exact.{Num, Equal, _⊞_, _⊟_, _⊠_, scale, signed}
-use Rattle.rounding.specs.Whole.{unit}
+use Rattle.rounding.specs.Exact.{Num, Equal, _⊞_, _⊟_, _⊠_, scale}
 use Rattle.corners.specs.Plane as plane
 use Rattle.corners.specs.Space as space
 use Rattle.del_geo_core.specs.declared.tri2.Tri2.{Tri2}
@@ -24,24 +24,35 @@ use Rattle.stvk_tri3.specs.Strain.{testedOf, testsOf}
 use Rattle.stvk_tri3.specs.declared.Strain.{Strain}
 use Rattle.stvk_tri3.proofs.StrainAnswer.{numbers-exactly, accepted-values}
 use Rattle.green_lagrange.specs.Book.{DeformationGradient, gradient, IsBookStrain}
-use Rattle.green_lagrange.specs.Sheet.{isRest, isWhole}
+use Rattle.green_lagrange.specs.Sheet.{mostDoublings, largestCoordinate, isRest, isWhole, InFamily}
 use Rattle.green_lagrange.proofs.Corners.{edge, corners}
 use Rattle.green_lagrange.proofs.Factors.{gugu0}
-use Rattle.green_lagrange.proofs.Fraction.{reads-minus, reads-product, reads-one, reads-none, reads-itself, is-fraction}
-use Rattle.green_lagrange.proofs.Gradient.{Column, dot-reads, column}
+use Rattle.green_lagrange.proofs.Fraction.{reads-sum, reads-minus, reads-product, reads-times, reads-half, reads-one, reads-none, is-fraction}
+use Rattle.green_lagrange.proofs.Gradient.{Column, dot-reads, component-reads, column, slope-x, slope-y}
+use Rattle.green_lagrange.proofs.Places.{all-finite, places}
 use Rattle.green_lagrange.proofs.Vector.{one, none, eX, eY, eZ, good}
 use Rattle.green_lagrange.proofs.Rest.{points, divisors}
-use Rattle.green_lagrange.proofs.Values.{Margins, Component, xx, yy, xy}
+use Rattle.green_lagrange.proofs.Values.{form, Margins, Component, xx, yy, xy}
 
 -- what the factors along one axis leave of a dot: the strains along the edges one by one, as the fractions have them
-first : (u d : ℕ) (v p q r : Num) → Equal (scale d v) (scale u (p ⊠ one ⊞ q ⊠ none ⊞ r ⊠ none)) → Equal (scale d v) (scale u (one ⊠ p))
-first u d v p q r e = omega (arith, e)
+first : (p q r : Num) → Equal (p ⊠ one ⊞ q ⊠ none ⊞ r ⊠ none) p
+first p q r = omega arith
 
-second : (u d : ℕ) (v p q r : Num) → Equal (scale d v) (scale u (p ⊠ none ⊞ q ⊠ one ⊞ r ⊠ none)) → Equal (scale d v) (scale u (one ⊠ q))
-second u d v p q r e = omega (arith, e)
+second : (p q r : Num) → Equal (p ⊠ none ⊞ q ⊠ one ⊞ r ⊠ none) q
+second p q r = omega arith
 
-third : (u d : ℕ) (v p q r : Num) → Equal (scale d v) (scale u (p ⊠ none ⊞ q ⊠ none ⊞ scale 2 r ⊠ one)) → Equal (scale (1 * d) v) (scale u (signed false 2 ⊠ (one ⊠ (r ⊟ none))))
-third u d v p q r e = omega (arith, e)
+third : (p q r : Num) → Equal (p ⊠ none ⊞ q ⊠ none ⊞ scale 2 r ⊠ one) (scale 2 (r ⊟ none))
+third p q r = omega arith
+
+-- and of a derivative: what the product rule has
+first-by : (s t p q : Num) → Equal (form eX s t p q) (p ⊠ s)
+first-by s t p q = omega arith
+
+second-by : (s t p q : Num) → Equal (form eY s t p q) (q ⊠ t)
+second-by s t p q = omega arith
+
+third-by : (s t p q : Num) → Equal (form eZ s t p q) (p ⊠ t ⊞ s ⊠ q)
+third-by s t p q = omega arith
 
 module _ (f : Format) {i j B S : ℕ} (m : Margins f i j B S) (pIni pDef : List (List Float)) {r : Strain} (is : IsGreenLagrange f pIni pDef r)
     (rest : isRest f (2 ^ i) (2 ^ j) (plane.cornersOf pIni) ≡ true) (deformed : isWhole f B (space.cornersOf pDef) ≡ true) where
@@ -66,11 +77,11 @@ module _ (f : Format) {i j B S : ℕ} (m : Margins f i j B S) (pIni pDef : List 
   abbrev F : DeformationGradient
   F = gradient f a b def
 
-  column-x : Column (F .xX) (F .yX) (F .zX) (edge f (def .p0) (def .p1)) a
-  column-x = let c = corners f B def deformed in column f a a+ (c .1) (c .0)
+  column-x : Column (F .X) (edge f (def .p0) (def .p1)) a
+  column-x = let c = corners f B def deformed in column f a a+ (c .0) (c .1)
 
-  column-y : Column (F .xY) (F .yY) (F .zY) (edge f (def .p0) (def .p2)) b
-  column-y = let c = corners f B def deformed in column f b b+ (c .2) (c .0)
+  column-y : Column (F .Y) (edge f (def .p0) (def .p2)) b
+  column-y = let c = corners f B def deformed in column f b b+ (c .0) (c .2)
 
   x : Component f m ini rest def deformed (gugu0 f ini .xx) eX (a * a)
   x = xx f m ini rest def deformed
@@ -109,7 +120,17 @@ module _ (f : Format) {i j B S : ℕ} (m : Margins f i j B S) (pIni pDef : List 
 
   answer-good : not (allFinite (values .w) && allFinite (values .dw)) ≡ false
   unfolding restOfGreenLagrange valuesOf wOf dwOf every
-  answer-good = rw (good (x .number), good (y .number), good (z .number), every-append, every-append, x .derivatives, y .derivatives, z .derivatives)
+  answer-good =
+      rw (
+        good (x .is .number),
+        good (y .is .number),
+        good (z .is .number),
+        every-append,
+        every-append,
+        all-finite _ (λ c axis. good (x .by c axis .number)),
+        all-finite _ (λ c axis. good (y .by c axis .number)),
+        all-finite _ (λ c axis. good (z .by c axis .number)),
+      )
 
   accepts : r .number ≡ accepted
   unfolding testedOf testsOf
@@ -118,22 +139,26 @@ module _ (f : Format) {i j B S : ℕ} (m : Margins f i j B S) (pIni pDef : List 
   w-is : r .w ≡ values .w
   w-is = accepted-values f (restOfGreenLagrange f) pIni pDef is accepts .0
 
+  dw-is : r .dw ≡ values .dw
+  dw-is = accepted-values f (restOfGreenLagrange f) pIni pDef is accepts .1
+
   -- ---- THE law, over the format
   pub book : IsBookStrain f a b def r
   unfolding restOfGreenLagrange valuesOf wOf
   book = record {
     accepts = accepts;
-    xx = rw w-is (is-fraction f _ (x .number) (mul-pos (lit≤ tt) (mul-pos a+ a+))
-        (reads-product (reads-itself 1 2 (lit≤ tt)) (reads-minus (dot-reads column-x column-x) (reads-one (a * a)))) (first (unit f) _ _ _ _ _ (x .is)));
-    yy = rw w-is (is-fraction f _ (y .number) (mul-pos (lit≤ tt) (mul-pos b+ b+))
-        (reads-product (reads-itself 1 2 (lit≤ tt)) (reads-minus (dot-reads column-y column-y) (reads-one (b * b)))) (second (unit f) _ _ _ _ _ (y .is)));
-    xy = rw w-is (is-fraction f _ (z .number) (mul-pos (lit≤ tt) (mul-pos (lit≤ tt) (mul-pos a+ b+)))
-        (reads-product (reads-itself 2 1 (lit≤ tt)) (reads-product (reads-itself 1 2 (lit≤ tt)) (reads-minus (dot-reads column-x column-y) (reads-none (a * b)))))
-        (third (unit f) _ _ _ _ _ (z .is)));
+    xx = rw w-is (is-fraction f (x .is) (reads-half (reads-minus (dot-reads column-x column-x) (reads-one (a * a)))) (first _ _ _));
+    yy = rw w-is (is-fraction f (y .is) (reads-half (reads-minus (dot-reads column-y column-y) (reads-one (b * b)))) (second _ _ _));
+    xy = rw w-is (is-fraction f (z .is) (reads-times _ (reads-half (reads-minus (dot-reads column-x column-y) (reads-none (a * b))))) (third _ _ _));
+    dxx = λ c axis h k. rw (dw-is, places _ _ _ c axis h k .0) (is-fraction f (x .by c axis) (reads-product (component-reads column-x axis) (slope-x a b a+ b+ c)) (first-by _ _ _ _));
+    dyy = λ c axis h k. rw (dw-is, places _ _ _ c axis h k .1) (is-fraction f (y .by c axis) (reads-product (component-reads column-y axis) (slope-y a b a+ b+ c)) (second-by _ _ _ _));
+    dxy = λ c axis h k. rw (dw-is, places _ _ _ c axis h k .2) (is-fraction f (z .by c axis)
+        (reads-sum (reads-product (component-reads column-x axis) (slope-y a b a+ b+ c)) (reads-product (slope-x a b a+ b+ c) (component-reads column-y axis)))
+        (third-by _ _ _ _));
   }
 
--- ---- THE theorem of 01-scope 6.5: a and b are powers of two from 1 to 1,024
-margins : {i j : ℕ} → i ≤ 10 → j ≤ 10 → Margins binary64 i j 1024 1048576
+-- ---- THE theorem of 01-scope 6.5
+margins : {i j : ℕ} → i ≤ mostDoublings → j ≤ mostDoublings → Margins binary64 i j largestCoordinate (2 ^ mostDoublings * 2 ^ mostDoublings)
 margins h k = record {
   small = record { high = omega arith; deep = omega arith };
   a² = mul-le-mul (pow-mono h) (pow-mono h);
@@ -142,7 +167,6 @@ margins h k = record {
   derivatives = lit< tt;
 }
 
-pub green-lagrange : (i j : ℕ) → i ≤ 10 → j ≤ 10 → (pIni pDef : List (List Float)) {r : Strain} → IsGreenLagrange binary64 pIni pDef r
-    → isRest binary64 (2 ^ i) (2 ^ j) (plane.cornersOf pIni) ≡ true → isWhole binary64 1024 (space.cornersOf pDef) ≡ true
-    → IsBookStrain binary64 (2 ^ i) (2 ^ j) (space.cornersOf pDef) r
-green-lagrange i j h k pIni pDef is rest deformed = book binary64 (margins h k) pIni pDef is rest deformed
+pub green-lagrange : {i j : ℕ} (pIni pDef : List (List Float)) {r : Strain} → IsGreenLagrange binary64 pIni pDef r
+    → InFamily binary64 i j (plane.cornersOf pIni) (space.cornersOf pDef) → IsBookStrain binary64 (2 ^ i) (2 ^ j) (space.cornersOf pDef) r
+green-lagrange pIni pDef is s = book binary64 (margins (s .sideX) (s .sideY)) pIni pDef is (s .rest) (s .deformed)

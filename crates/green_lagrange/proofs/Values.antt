@@ -1,16 +1,14 @@
--- The values for a rest triangle on (0, 0), (2 ^ i, 0), (0, 2 ^ j) and whole deformed corners: each factor is a power of two along one axis, so every product and every sum is exact.
+-- The values and derivatives for a rest triangle on (0, 0), (2 ^ i, 0), (0, 2 ^ j) and whole deformed corners: each factor is a power of two along one axis, so every product and sum is exact.
 use mathlib.Core.Path.{_≡_, refl, sym, ap, _∙_}
 use mathlib.Core.Bool.{true, false}
-use Prim.Native.Nat.{ℕ, _+_, _-_, _*_, _^_, _≤_, _<_}
-use native.Mathlib.Nat.{mul-le-mul-left, lt-of-le-of-lt}
+use Prim.Native.Nat.{ℕ, zero, suc, _+_, _-_, _*_, _^_, _≤_, _<_}
+use native.Mathlib.Nat.{mul-pos, mul-le-mul-left, lt-of-le-of-lt}
 use native.Mathlib.Omega.{arith}
 use lib.Dec.{lit≤}
-use lib.Pow.{pow-add}
+use lib.Pow.{pow-add, pow-pos}
 use lib.Ieee.{Float, Format, prec, low}
-use lib.Ieee.Scale.{finite}
-use Rattle.float.specs.Lists.{every, allFinite}
 use Rattle.float.specs.Ops.{Ops, ops}
-use Rattle.rounding.specs.Exact.{Num, Equal, _⊟_, scale, signed, value, Number}
+use Rattle.rounding.specs.Exact.{Num, Equal, _⊞_, _⊟_, _⊠_, scale, signed}
 use Rattle.rounding.specs.Dyadic.{Dyad, Room}
 use Rattle.rounding.specs.Whole.{unit}
 use Rattle.rounding.proofs.Nearest.{top-digit}
@@ -21,17 +19,24 @@ use Rattle.del_geo_core.specs.declared.tri2.Tri2.{Tri2}
 use Rattle.del_geo_core.specs.declared.tri3.Tri3.{Tri3}
 use Rattle.vec3.specs.declared.V3.{V3}
 use Rattle.edges.specs.Edges.{planeOf, spaceOf, glstrainOf}
-use Rattle.strain.specs.Strain.{flat, hogeOf, dwKOf}
+use Rattle.strain.specs.Strain.{hogeOf, dwKOf}
 use Rattle.green_lagrange.specs.Sheet.{isRest, isWhole}
 use Rattle.green_lagrange.proofs.Corners.{edge, corners}
 use Rattle.green_lagrange.proofs.Factors.{gugu0, xx-factors, yy-factors, xy-factors}
+use Rattle.green_lagrange.proofs.Fraction.{Quotient, quotient}
+use Rattle.green_lagrange.proofs.Gradient.{slopeX, slopeY}
+use Rattle.green_lagrange.proofs.Places.{corner, coordinate}
 use Rattle.green_lagrange.proofs.Powers.{tiny, nothing}
 use Rattle.green_lagrange.proofs.Rest.{Small, room, edge-x, edge-y}
-use Rattle.green_lagrange.proofs.Vector.{Nums, one, none, eX, eY, eZ, dot, good, Dyads, sub-exact, dot-exact}
+use Rattle.green_lagrange.proofs.Vector.{Nums, one, none, eX, eY, eZ, component, dot, Dyads, sub-exact, dot-exact}
 
 -- the strains along the edges
 abbrev pub glstrain : Format → Tri2 → Tri3 → V3
 glstrain f ini def = glstrainOf f (planeOf f ini) (spaceOf f def)
+
+-- (s, t) and (p, q) by the symmetric matrix n, its off-diagonal last
+abbrev pub form : Nums → (s t p q : Num) → Num
+form n s t p q = (n .x ⊠ s ⊞ n .z ⊠ t) ⊠ p ⊞ (n .z ⊠ s ⊞ n .y ⊠ t) ⊠ q
 
 -- the digits suffice, where B bounds the corners' coordinates and S the squares of a and b: a strain along the edges has at most six products of two edges' coordinates in it and one square, and a
 -- value is three of them times factors of size 32 at most; a derivative is two products of 64 at most by an edge's coordinate
@@ -56,6 +61,10 @@ module _ (f : Format) {i j B S : ℕ} (m : Margins f i j B S) (ini : Tri2) (rest
   -- no component of a strain along the edges is larger
   abbrev G : ℕ
   G = 6 * (W * W) + S
+
+  -- and no coordinate of a derivative than this
+  abbrev D : ℕ
+  D = 64 * W + 64 * W
 
   abbrev d1 : Nums
   d1 = edge f (def .p0) (def .p1)
@@ -109,11 +118,10 @@ module _ (f : Format) {i j B S : ℕ} (m : Margins f i j B S) (ini : Tri2) (rest
       twice : (p h : ℕ) (n : Num) → p ≡ h * 2 → Equal (scale p (n ⊟ none)) (scale h (scale 2 n))
       twice p h n e = rw e (omega arith)
 
-  -- ---- one value and its derivatives, for factors g that are n * 2 ^ k units: the value is exact, over 2 d
+  -- ---- one value and its derivatives, for factors g that are n / d: the value is over 2 d, a derivative over d
   pub record Component (g : V3) (n : Nums) (d : ℕ) : Type 0 where
-    pub number : Number f (dotOf f (glstrain f ini def) g)
-    pub is : Equal (scale (2 * d) (value f (dotOf f (glstrain f ini def) g))) (scale (unit f) (dot gl n))
-    pub derivatives : allFinite (flat (dwKOf f (spaceOf f def) g)) ≡ true
+    pub is : Quotient f (dotOf f (glstrain f ini def) g) (dot gl n) (2 * d)
+    pub by : (c axis : ℕ) → Quotient f (coordinate axis (corner c (dwKOf f (spaceOf f def) g))) (form n (slopeX c) (slopeY c) (component axis d1) (component axis d2)) d
 
   module _ {g : V3} {k : ℕ} {n : Nums} {C : ℕ} (k≤ : k ≤ l) (k+ : 0 < k) (C≤ : C ≤ 32) (a : Dyads f g k n C) where
     r : Room f k
@@ -122,48 +130,41 @@ module _ (f : Format) {i j B S : ℕ} (m : Margins f i j B S) (ini : Tri2) (rest
     value-exact : Dyad f (dotOf f (glstrain f ini def) g) (k - 1) (dot gl n) (G * C + G * C + G * C)
     value-exact = dot-exact f (k - 1) (omega arith) (room f i j (m .small) (k - 1) (omega arith)) strains a (lt-of-le-of-lt (omega (arith, mul-le-mul-left G C≤)) (m .strains))
 
-    value-is : (d : ℕ) → 2 ^ k * d ≡ unit f → Equal (scale (2 * d) (value f (dotOf f (glstrain f ini def) g))) (scale (unit f) (dot gl n))
-    value-is d e = go (2 ^ (k - 1)) (2 ^ k) (unit f) (value f (dotOf f (glstrain f ini def) g)) (dot gl n) (top-digit k k+) e (value-exact .is)
-      where
-        go : (h p t : ℕ) (w o : Num) → p ≡ h * 2 → p * d ≡ t → Equal w (scale h o) → Equal (scale (2 * d) w) (scale t o)
-        go h p t w o e q z = rw (← q, e) (omega (arith, ap (λ (y : ℕ). 2 * d * y) z))
+    -- a coordinate of a derivative, for the factors x and y of the edges
+    sum : {x y s t : Float} {o p q v : Num} → Dyad f x k o 64 → Dyad f y k p 64 → Dyad f s l q W → Dyad f t l v W → Dyad f (x ⊗ s ⊕ y ⊗ t) k (o ⊠ q ⊞ p ⊠ v) D
+    sum b c d e =
+        let w : D < 2 ^ prec f = lt-of-le-of-lt (omega arith) (m .derivatives) in
+        let h : 64 * W < 2 ^ prec f = lt-of-le-of-lt (omega arith) w in
+        dyad-add f r (dyad-mul f k refl r b d h) (dyad-mul f k refl r c e h) w
+
+    part : {x y : Float} {o p : Num} → Dyad f x k o 64 → Dyad f y k p 64 → (axis : ℕ)
+        → Dyad f (coordinate axis (hogeOf f (spaceOf f def) x y)) k (o ⊠ component axis d1 ⊞ p ⊠ component axis d2) D
+    unfolding hogeOf
+    part b c zero = sum b c (deformed-x .x) (deformed-y .x)
+    part b c (suc zero) = sum b c (deformed-x .y) (deformed-y .y)
+    part b c (suc (suc axis)) = sum b c (deformed-x .z) (deformed-y .z)
 
     few : C + C ≤ 64
     few = omega (arith, C≤)
 
-    most : {x : Float} {o : Num} {D : ℕ} → D ≤ C + C → Dyad f x k o D → Dyad f x k o 64
-    most h b = dyad-as b refl (omega (arith, b .small, h, few))
+    -- a factor of an edge, as n and the slopes have it
+    factor : {x : Float} {o p : Num} {B : ℕ} → B ≤ C + C → Equal o p → Dyad f x k o B → Dyad f x k p 64
+    factor h e b = dyad-as b (omega (arith, ap (λ (z : ℕ). 2 ^ k * z) e)) (omega (arith, b .small, h, few))
 
-    -- a coordinate of a derivative
-    part : {x y s t : Float} {o p q v : Num} → Dyad f x k o 64 → Dyad f y k p 64 → Dyad f s l q W → Dyad f t l v W → finite (x ⊗ s ⊕ y ⊗ t) ≡ true
-    part b c d e =
-        let w : 64 * W + 64 * W < 2 ^ prec f = lt-of-le-of-lt (omega arith) (m .derivatives) in
-        let h : 64 * W < 2 ^ prec f = lt-of-le-of-lt (omega arith) w in
-        good (dyad-add f r (dyad-mul f k refl r b d h) (dyad-mul f k refl r c e h) w .number)
-
-    derivatives-finite : allFinite (flat (dwKOf f (spaceOf f def) g)) ≡ true
-    unfolding dwKOf hogeOf every
-    derivatives-finite =
+    derivative-exact : (c axis : ℕ)
+        → Dyad f (coordinate axis (corner c (dwKOf f (spaceOf f def) g))) k (form n (slopeX c) (slopeY c) (component axis d1) (component axis d2)) D
+    unfolding dwKOf
+    derivative-exact zero =
         let two : C + C < 2 ^ prec f = omega (arith, few, tiny f) in
-        let xz = most (omega arith) (dyad-neg (dyad-add f r (a .x) (a .z) two)) in
-        let yz = most (omega arith) (dyad-neg (dyad-add f r (a .y) (a .z) two)) in
-        let x = most (omega arith) (a .x) in
-        let y = most (omega arith) (a .y) in
-        let z = most (omega arith) (a .z) in
-        rw (
-          part xz yz (deformed-x .x) (deformed-y .x),
-          part xz yz (deformed-x .y) (deformed-y .y),
-          part xz yz (deformed-x .z) (deformed-y .z),
-          part x z (deformed-x .x) (deformed-y .x),
-          part x z (deformed-x .y) (deformed-y .y),
-          part x z (deformed-x .z) (deformed-y .z),
-          part z y (deformed-x .x) (deformed-y .x),
-          part z y (deformed-x .y) (deformed-y .y),
-          part z y (deformed-x .z) (deformed-y .z),
-        )
+        part (factor (omega arith) (omega arith) (dyad-neg (dyad-add f r (a .x) (a .z) two))) (factor (omega arith) (omega arith) (dyad-neg (dyad-add f r (a .y) (a .z) two)))
+    derivative-exact (suc zero) = part (factor (omega arith) (omega arith) (a .x)) (factor (omega arith) (omega arith) (a .z))
+    derivative-exact (suc (suc c)) = part (factor (omega arith) (omega arith) (a .z)) (factor (omega arith) (omega arith) (a .y))
 
-    component : (d : ℕ) → 2 ^ k * d ≡ unit f → Component g n d
-    component d e = record { number = value-exact .number; is = value-is d e; derivatives = derivatives-finite }
+    component-exact : (d : ℕ) → 2 ^ k * d ≡ unit f → 0 < d → Component g n d
+    component-exact d e d+ = record {
+      is = quotient f (omega (arith, rw (top-digit k k+) at e)) (omega arith) value-exact;
+      by = λ c axis. quotient f e d+ (derivative-exact c axis);
+    }
 
   -- 2 ^ (l - (p + q)) units are 1 / (2 ^ p * 2 ^ q)
   product : (p q : ℕ) → p + q ≤ 2 * (i + j) → 2 ^ (l - (p + q)) * (2 ^ p * 2 ^ q) ≡ unit f
@@ -173,10 +174,10 @@ module _ (f : Format) {i j B S : ℕ} (m : Margins f i j B S) (ini : Tri2) (rest
 
   -- ---- THE laws of the three values
   pub xx : Component (gugu0 f ini .xx) eX (2 ^ i * 2 ^ i)
-  xx = component (omega arith) (omega (arith, m .small .deep)) (lit≤ tt) (xx-factors f i j (m .small) ini rest) (2 ^ i * 2 ^ i) (product i i (omega arith))
+  xx = component-exact (omega arith) (omega (arith, m .small .deep)) (lit≤ tt) (xx-factors f i j (m .small) ini rest) (2 ^ i * 2 ^ i) (product i i (omega arith)) (mul-pos (pow-pos i) (pow-pos i))
 
   pub yy : Component (gugu0 f ini .yy) eY (2 ^ j * 2 ^ j)
-  yy = component (omega arith) (omega (arith, m .small .deep)) (lit≤ tt) (yy-factors f i j (m .small) ini rest) (2 ^ j * 2 ^ j) (product j j (omega arith))
+  yy = component-exact (omega arith) (omega (arith, m .small .deep)) (lit≤ tt) (yy-factors f i j (m .small) ini rest) (2 ^ j * 2 ^ j) (product j j (omega arith)) (mul-pos (pow-pos j) (pow-pos j))
 
   pub xy : Component (gugu0 f ini .xy) eZ (2 ^ i * 2 ^ j)
-  xy = component (omega arith) (omega (arith, m .small .deep)) (lit≤ tt) (xy-factors f i j (m .small) ini rest) (2 ^ i * 2 ^ j) (product i j (omega arith))
+  xy = component-exact (omega arith) (omega (arith, m .small .deep)) (lit≤ tt) (xy-factors f i j (m .small) ini rest) (2 ^ i * 2 ^ j) (product i j (omega arith)) (mul-pos (pow-pos i) (pow-pos j))

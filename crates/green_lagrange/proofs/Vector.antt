@@ -1,7 +1,7 @@
 -- Vectors of three numbers whose components are whole multiples of one power of two: the helpers' operations on them are exact.
 use mathlib.Core.Path.{_≡_}
 use mathlib.Core.Bool.{true, false}
-use Prim.Native.Nat.{ℕ, _+_, _*_, _^_, _<_}
+use Prim.Native.Nat.{ℕ, zero, suc, _+_, _*_, _^_, _<_}
 use native.Mathlib.Nat.{lt-of-le-of-lt}
 use native.Mathlib.Omega.{arith}
 use lib.Ieee.{Float, Format, prec, low}
@@ -23,6 +23,14 @@ one = signed false 1
 
 abbrev pub none : Num
 none = signed false 0
+
+abbrev pub minusOne : Num
+minusOne = signed true 1
+
+abbrev pub component : (i : ℕ) → Nums → Num
+component zero n = n .x
+component (suc zero) n = n .y
+component (suc (suc i)) n = n .z
 
 -- along the axes
 abbrev pub eX : Nums
