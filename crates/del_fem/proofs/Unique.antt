@@ -1,4 +1,4 @@
--- No second answer fits a statement of this crate: the number and the values are each equal to one thing. The roots' and the masses' statements are their crates' own, and those of a mesh's
+-- No second answer fits a statement of this crate: the number and the values are each equal to one thing. The roots', the masses' and the words' statements are their crates' own, and those of a mesh's
 -- coordinates and names, and so are the laws that they have one answer; the skin's law is its crate's, taken apart. The counts and the place of a mesh file are the entries of one list.
 use mathlib.Core.Path.{_≡_, ap}
 use mathlib.Core.List.{List, [], _∷_}
@@ -10,7 +10,10 @@ use Rattle.skin.specs.declared.Skin.{Skin}
 use Rattle.skin.proofs.SkinAnswer.{unique}
 use Rattle.mesh.specs.declared.Mesh.{Mesh}
 use Rattle.del_fem.specs.Exports.{IsBendingExport, IsStrainExport, IsGreenLagrangeExport, IsStvkExport, IsPlateExport, IsSkinExport}
-use Rattle.del_fem.specs.Exports.{IsMeshExport, pointsAt, cellsAt, GivesBlock, IsPointsExport, IsCellsExport}
+use Rattle.del_fem.specs.Exports.{IsMeshExport, pointsAt, cellsAt, GivesBlock, IsPointsExport, IsCellsExport, version}
+
+pub version-number : {r q : ℕ} → r ≡ version → q ≡ version → r ≡ q
+version-number = only
 
 module _ {r q : ℕ} {v w : List Float} where
   module _ (f : Format) where

@@ -20,6 +20,10 @@ use Rattle.mesh.specs.Mesh.{meshOf, numberOf, valuesOf}
 use Rattle.mesh.specs.declared.Mesh.{Mesh}
 use Rattle.mesh.specs.declared.Mesh.the-variants.{Read, Refused}
 
+-- THE statement of `del_fem_version`: 1000 times the major number and the minor one
+abbrev pub version : ℕ
+version = 1000
+
 module _ (f : Format) where
   -- THE statement of `del_fem_quadratic_bending_wdw` (01-scope 5.6)
   abbrev pub IsBendingExport : (pIni pDef : List (List Float)) (r : ℕ) (values : List Float) → Type 0

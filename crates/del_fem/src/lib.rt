@@ -1,11 +1,29 @@
-// What C and Rust link: each routine under one plain name, corners by reference, values into a lent array, the refusal number returned (include/del_fem.h).
+// What C and Rust link: each routine under one name that begins with del_fem_, corners by reference, values into a lent array, the refusal number returned (include/del_fem.h).
+ghost use mathlib.Core.Path.{_≡_};
 ghost use lib.Ieee.{binary64};
 ghost use Rattle.root.specs.Root.{SquareRoot, SquareRootWord};
 ghost use Rattle.mitc_tri3.specs.Masses.{IsMasses};
 ghost use Rattle.mesh.specs.Blocks.{IsCoordinate, IsName};
+ghost use Rattle.words.specs.Words.{IsMeaning};
 ghost use Rattle.del_fem.specs.Exports.{IsBendingExport, IsStrainExport, IsGreenLagrangeExport, IsStvkExport, IsPlateExport};
-ghost use Rattle.del_fem.specs.Exports.{IsSkinExport, IsMeshExport, IsPointsExport, IsCellsExport};
+ghost use Rattle.del_fem.specs.Exports.{IsSkinExport, IsMeshExport, IsPointsExport, IsCellsExport, version};
 use mesh::Mesh;
+
+// Which header these functions fit.
+#[no_mangle]
+pub extern "C" fn del_fem_version() -> u32
+    ensures { λ r. ⌜ r ≡ version ⌝ }
+{
+    1000
+}
+
+// What a number means in words, as a text of C: the words, then zeros; answers how many bytes the words have.
+#[no_mangle]
+pub extern "C" fn del_fem_meaning(number: u32, words: &mut [u8; 64]) -> usize
+    ensures { λ r. ⌜ IsMeaning number r (now (words .exit)) ⌝ }
+{
+    words::meaning(number, words)
+}
 
 // The root of x.
 #[no_mangle]
