@@ -81,6 +81,16 @@ extern "C" {
         place: *mut usize,
         length: *mut usize,
     ) -> u32;
-    pub fn del_fem_mesh_coordinate(points: *const u8, points_len: usize, point: usize, axis: usize) -> f64;
-    pub fn del_fem_mesh_name(cells: *const u8, cells_len: usize, triangle: usize, corner: usize) -> usize;
+    pub fn del_fem_mesh_coordinate(
+        points: *const u8,
+        points_len: usize,
+        point: usize,
+        axis: usize,
+    ) -> f64;
+    pub fn del_fem_mesh_name(
+        cells: *const u8,
+        cells_len: usize,
+        triangle: usize,
+        corner: usize,
+    ) -> usize;
 }

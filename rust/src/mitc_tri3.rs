@@ -13,8 +13,9 @@ pub fn w_dw_ddw_plate_bending(
     let p = p.map(|corner| *corner);
     let mut values = [0.0; ffi::ENERGY_VALUES];
     // SAFETY: references to arrays of the declared shapes, the lent one a local of its own.
-    let number =
-        unsafe { ffi::del_fem_mitc_tri3_w_dw_ddw_plate_bending(&p, u, thk, lambda, myu, &mut values) };
+    let number = unsafe {
+        ffi::del_fem_mitc_tri3_w_dw_ddw_plate_bending(&p, u, thk, lambda, myu, &mut values)
+    };
     Refusal::of(number)?;
     Ok(energy(&values))
 }
