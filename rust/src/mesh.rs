@@ -12,7 +12,7 @@ pub struct Mesh {
 /// Why a file is refused, and where.
 #[derive(Clone, Copy, Debug, PartialEq, Eq, Hash)]
 pub struct Refused {
-    /// Always [`Refusal::BadFile`].
+    /// [`Refusal::BadFile`], or [`Refusal::Unknown`].
     pub refusal: Refusal,
     /// The first byte, counted from 0, of the first line or number that is wrong; the file's length where it ends early.
     pub place: usize,

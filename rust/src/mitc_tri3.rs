@@ -21,7 +21,7 @@ pub fn w_dw_ddw_plate_bending(
 }
 
 /// The lumped masses of a panel into `vtx2mass`, three for each vertex: for its translation and its two rotations. After [`Refusal::BadAnswer`] the buffer is +0
-/// throughout; any other refusal leaves it as it was.
+/// throughout; [`Refusal::BadLength`], [`Refusal::BadName`] and [`Refusal::BadInput`] leave it as it was.
 pub fn mass_lumped_plate_bending(
     tri2vtx: &[usize],
     vtx2xy: &[f64],

@@ -1,30 +1,49 @@
 use std::fmt;
 
 /// Why a routine gives no numbers. Where several reasons hold, the one with the lowest number is given; of a skin's triangles the first that is refused gives its own.
+///
+/// ```
+/// use del_fem::{mitc_tri3, Refusal};
+///
+/// let refusal = mitc_tri3::mass_lumped_plate_bending(&[0, 1, 2, 1], &[], 1.0, 2.0, &mut []).unwrap_err();
+/// assert_eq!(refusal, Refusal::BadLength);
+/// assert_eq!(refusal.number(), 1);
+/// assert_eq!(refusal.to_string(), "refused (1): a length or a limit is wrong");
+/// ```
 #[derive(Clone, Copy, Debug, PartialEq, Eq, Hash)]
 #[non_exhaustive]
 pub enum Refusal {
-    /// A length or a limit is wrong.
-    BadLength = 1,
-    /// A triangle names a vertex that does not exist.
-    BadName = 2,
-    /// A number that the routine reads is a NaN or an infinity.
-    BadInput = 3,
-    /// A divisor is zero, of either sign.
-    ZeroDivisor = 4,
-    /// The finished answer has a NaN or an infinity in it.
-    BadAnswer = 5,
-    /// A mesh file is not as it has to be.
-    BadFile = 8,
+    /// 1: a length or a limit is wrong.
+    BadLength,
+    /// 2: a triangle names a vertex that does not exist.
+    BadName,
+    /// 3: a number that the routine reads is a NaN or an infinity.
+    BadInput,
+    /// 4: a divisor is zero, of either sign.
+    ZeroDivisor,
+    /// 5: the finished answer has a NaN or an infinity in it.
+    BadAnswer,
+    /// 8: a mesh file is not as it has to be.
+    BadFile,
+    /// Any other number, which only a newer archive than this crate's returns. What a lent buffer then holds is not known.
+    Unknown(u32),
 }
 
 impl Refusal {
-    /// Its number in the scope.
+    /// Its number in the scope; of [`Refusal::Unknown`] the one that the archive returned.
     pub fn number(self) -> u32 {
-        self as u32
+        match self {
+            Self::BadLength => 1,
+            Self::BadName => 2,
+            Self::BadInput => 3,
+            Self::ZeroDivisor => 4,
+            Self::BadAnswer => 5,
+            Self::BadFile => 8,
+            Self::Unknown(number) => number,
+        }
     }
 
-    /// What the returned number says; no routine returns one that is not listed.
+    /// What the returned number says.
     pub(crate) fn of(number: u32) -> Result<(), Self> {
         match number {
             0 => Ok(()),
@@ -34,7 +53,7 @@ impl Refusal {
             4 => Err(Self::ZeroDivisor),
             5 => Err(Self::BadAnswer),
             8 => Err(Self::BadFile),
-            _ => unreachable!("no routine returns {number}"),
+            _ => Err(Self::Unknown(number)),
         }
     }
 }
@@ -48,9 +67,30 @@ impl fmt::Display for Refusal {
             Self::ZeroDivisor => "a divisor is zero",
             Self::BadAnswer => "the finished answer has a NaN or an infinity in it",
             Self::BadFile => "the mesh file is not as it has to be",
+            Self::Unknown(_) => "a number of a newer archive, not known to this crate",
         };
         write!(f, "refused ({}): {words}", self.number())
     }
 }
 
 impl std::error::Error for Refusal {}
+
+#[cfg(test)]
+mod tests {
+    use super::Refusal;
+
+    const LISTED: [u32; 6] = [1, 2, 3, 4, 5, 8];
+
+    #[test]
+    fn every_number_but_0_is_a_refusal_that_says_it() {
+        assert_eq!(Refusal::of(0), Ok(()));
+        for number in (1..1000).chain([u32::MAX - 1, u32::MAX]) {
+            let refusal = Refusal::of(number).expect_err("a refusal");
+            assert_eq!(refusal.number(), number);
+            let start = format!("refused ({number}): ");
+            assert!(refusal.to_string().starts_with(&start), "{refusal}");
+            let unknown = refusal == Refusal::Unknown(number);
+            assert_eq!(unknown, !LISTED.contains(&number), "{refusal:?}");
+        }
+    }
+}

@@ -2,7 +2,8 @@
 use crate::{ffi, Refusal};
 use std::fmt;
 
-/// Why a skin has no energy, and where. Lengths and names are refused before any triangle is looked at and have no place; the option says so, 0 being the first triangle's.
+/// Why a skin has no energy, and where. Lengths and names are refused before any triangle is looked at and have no place, and of [`Refusal::Unknown`] none is known; the
+/// option says so, 0 being the first triangle's.
 #[derive(Clone, Copy, Debug, PartialEq, Eq, Hash)]
 pub struct Refused {
     pub refusal: Refusal,
@@ -13,8 +14,8 @@ pub struct Refused {
 impl Refused {
     fn at(refusal: Refusal, place: usize) -> Self {
         let place = match refusal {
-            Refusal::BadLength | Refusal::BadName => None,
-            _ => Some(place),
+            Refusal::BadInput | Refusal::ZeroDivisor | Refusal::BadAnswer => Some(place),
+            _ => None,
         };
         Self { refusal, place }
     }
@@ -36,7 +37,7 @@ impl std::error::Error for Refused {}
 ///
 /// Refused are lists of different lengths or of a length that 3 does not divide, more than [`crate::MAX_VERTICES`] or [`crate::MAX_TRIANGLES`], a name of no vertex; then the first
 /// triangle that the kernel refuses, its Hessian included; then a sum that is not finite. Without triangles nothing but the lengths is looked at. After a refusal with a
-/// place the buffer is +0 throughout; any other leaves it as it was.
+/// place the buffer is +0 throughout; [`Refusal::BadLength`] and [`Refusal::BadName`] leave it as it was.
 pub fn wdw(
     vtx2ini: &[f64],
     vtx2def: &[f64],
@@ -66,5 +67,22 @@ pub fn wdw(
     match Refusal::of(number) {
         Ok(()) => Ok(w),
         Err(refusal) => Err(Refused::at(refusal, place)),
+    }
+}
+
+#[cfg(test)]
+mod tests {
+    use super::{Refusal, Refused};
+
+    #[test]
+    fn only_reasons_of_triangles_and_sums_have_a_place() {
+        for number in (1..20).chain([u32::MAX]) {
+            let refused = Refused::at(Refusal::of(number).expect_err("a refusal"), 7);
+            assert_eq!(refused.place.is_some(), (3..=5).contains(&number));
+            assert_eq!(
+                refused.to_string().ends_with("at place 7"),
+                refused.place == Some(7)
+            );
+        }
     }
 }
