@@ -1,8 +1,60 @@
-//! Energies, strains and masses of thin triangles, under the names and in the shapes of nobuyuki83/del-fem.
+//! How heavy and how stiff a thin wall panel is: masses, energies, forces and strains of small flat triangles, under the names and in the shapes of nobuyuki83/del-fem.
 //!
 //! Every routine is a safe call of a proved function (`../include/del_fem.h` says what each gives, `../docs/01-scope.md` by which rules). Where the original would
-//! panic or give numbers that mean nothing, the answer is a [`Refusal`]. Not the original's are two modules, [`skin`], which adds up what [`stvk_tri3::wdwddw_`] gives for many
-//! triangles, and [`mesh`], which reads points and triangles from a file; and [`stvk_tri3::wdw_green_lagrange`], a second strain.
+//! panic or give numbers that mean nothing, the answer is a [`Refusal`]. Not the original's are two modules, [`skin`], which adds up what [`stvk_tri3::wdwddw_`]
+//! gives for many triangles, and [`mesh`], which reads points and triangles from a file; and [`stvk_tri3::wdw_green_lagrange`], a second strain.
+//!
+//! # What it needs
+//!
+//! x86-64 Linux, Rust 1.63 or newer, and the archive `libdel_fem.a`, which `rt staticlib del_fem` at the repository's root writes to `target/staticlib`. To take it
+//! from another folder, set `DEL_FEM_LIB_DIR` to that folder's absolute path.
+//!
+//! # Units
+//!
+//! Any that fit each other. With metres, kilograms and newtons the masses are in kg, Lame's parameters in N/m^2, a plate's energy in J; StVK's energy has no
+//! thickness in it and is for each metre of thickness.
+//!
+//! Masses take the area alone from the coordinates, which may thus have a unit of their own. With whole millimetres, a thickness in metres and a density in kg/m^3
+//! the masses are in milligrams (mm^2 m kg/m^3 = 10^-6 kg), the two for rotations in mg m^2; and since the coordinates are whole numbers, the masses are within a
+//! proved distance of what the given doubles make exactly (`../docs/01-scope.md` 6.2: coordinates of size up to 1,048,576, density and thickness from 2^-40 to 2^40).
+//!
+//! # From a mesh file to masses
+//!
+//! Masses take x and y. A wall that stands upright weighs 0 there and a folded one too little, with `Ok` and no word said; so the wall has to lie flat, all its z one
+//! value:
+//!
+//! ```
+//! use del_fem::{mesh, mitc_tri3};
+//! use std::error::Error;
+//!
+//! /// Three masses for each point of a flat wall.
+//! fn masses(file: &[u8], thick: f64, rho: f64) -> Result<Vec<f64>, Box<dyn Error>> {
+//!     let mesh::Mesh { points, triangles } = mesh::read(file)?;
+//!     let (block, cells) = (mesh::points(file)?, mesh::cells(file)?);
+//!     let at = |point, axis| mesh::coordinate(block, point, axis).expect("a coordinate");
+//!     // A NaN equals nothing and fails.
+//!     if !(0..points).all(|point| at(point, 2) == at(0, 2)) {
+//!         return Err("the wall is not flat: its z are not one value".into());
+//!     }
+//!     let vtx2xy: Vec<f64> = (0..2 * points).map(|i| at(i / 2, i % 2)).collect();
+//!     let tri2vtx: Vec<usize> = (0..3 * triangles)
+//!         .map(|i| mesh::name(cells, i / 3, i % 3).expect("a name"))
+//!         .collect();
+//!     let mut vtx2mass = vec![0.0; 3 * points];
+//!     mitc_tri3::mass_lumped_plate_bending(&tri2vtx, &vtx2xy, thick, rho, &mut vtx2mass)?;
+//!     Ok(vtx2mass)
+//! }
+//!
+//! // A square of 6 by 6 in two triangles: 36 mm^2 * 1 m * 2 kg/m^3 = 72 mg.
+//! let file = std::fs::read("../meshes/files/two.vtk")?;
+//! let vtx2mass = masses(&file, 1.0, 2.0)?;
+//! assert_eq!(vtx2mass, [12.0, 1.0, 1.0, 24.0, 2.0, 2.0, 24.0, 2.0, 2.0, 12.0, 1.0, 1.0]);
+//! assert_eq!(vtx2mass.iter().step_by(3).sum::<f64>(), 72.0);
+//!
+//! let folded = std::fs::read("../meshes/files/folded.vtk")?;
+//! assert!(masses(&folded, 1.0, 2.0).is_err());
+//! # Ok::<(), Box<dyn Error>>(())
+//! ```
 
 mod ffi;
 pub mod mesh;

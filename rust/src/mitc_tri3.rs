@@ -1,8 +1,41 @@
-//! A plate triangle's energy, and the masses of a panel of plates.
+//! A plate triangle's energy, and the masses of a panel of plates. Both lie in the plane of x and y.
+//!
+//! **Masses do not see z.** Of a wall in space, a mesh file's for one, they take x and y: one that stands upright weighs 0 and a folded one too little, with `Ok` and
+//! no word said. So test that all z are one value before you take x and y ([the whole way](crate#from-a-mesh-file-to-masses)):
+//!
+//! ```
+//! use del_fem::mitc_tri3::mass_lumped_plate_bending;
+//!
+//! let upright = [[0.0, 0.0, 0.0], [6.0, 0.0, 0.0], [0.0, 0.0, 6.0_f64]];
+//! let flat = upright.iter().all(|p| p[2] == upright[0][2]);
+//! assert!(!flat);
+//!
+//! // What comes without the test.
+//! let vtx2xy: Vec<f64> = upright.iter().flat_map(|p| [p[0], p[1]]).collect();
+//! let mut vtx2mass = [7.5; 9];
+//! mass_lumped_plate_bending(&[0, 1, 2], &vtx2xy, 1.0, 2.0, &mut vtx2mass)?;
+//! assert_eq!(vtx2mass, [0.0; 9]);
+//! # Ok::<(), del_fem::Refusal>(())
+//! ```
 use crate::{energy, ffi, Energy, Refusal};
 
 /// The energy of a plate of thickness `thk` over the plane corners `p`, with its gradient and Hessian by `u`: at each corner the displacement in z and the rotations
-/// about x and y.
+/// about x and y. Each value carries the area's sign, which turns where the corners run clockwise. The energy in shear is the original's, four times that of plain
+/// plate theory where the two edges at corner 0 are perpendicular (`../docs/DIFFERENCES.md`).
+///
+/// ```
+/// use del_fem::{mitc_tri3::w_dw_ddw_plate_bending, Refusal};
+///
+/// let p = [&[0.0, 0.0], &[1.0, 0.0], &[0.0, 1.0]];
+/// let mut u = [[0.0; 3]; 3];
+/// u[1][0] = 1.0; // corner 1 is lifted
+/// let (w, _dw, _ddw) = w_dw_ddw_plate_bending(&p, &u, 2.0, 0.0, 1.0)?;
+/// assert_eq!(w, 2.0);
+///
+/// // Without thickness.
+/// assert_eq!(w_dw_ddw_plate_bending(&p, &u, 0.0, 0.0, 1.0), Err(Refusal::ZeroDivisor));
+/// # Ok::<(), Refusal>(())
+/// ```
 pub fn w_dw_ddw_plate_bending(
     p: &[&[f64; 2]; 3],
     u: &[[f64; 3]; 3],
@@ -20,8 +53,29 @@ pub fn w_dw_ddw_plate_bending(
     Ok(energy(&values))
 }
 
-/// The lumped masses of a panel into `vtx2mass`, three for each vertex: for its translation and its two rotations. After [`Refusal::BadAnswer`] the buffer is +0
-/// throughout; [`Refusal::BadLength`], [`Refusal::BadName`] and [`Refusal::BadInput`] leave it as it was.
+/// The lumped masses of a panel into `vtx2mass`, three for each vertex: for its translation and its two rotations. `tri2vtx` names three vertices for each triangle,
+/// `vtx2xy` has x and y of each vertex: of a wall in space z has to be one value throughout, which is the caller's to test (see [the module](self)). A triangle whose
+/// corners run clockwise takes its mass away.
+///
+/// After [`Refusal::BadAnswer`] the buffer is +0 throughout; [`Refusal::BadLength`], [`Refusal::BadName`] and [`Refusal::BadInput`] leave it as it was.
+///
+/// ```
+/// use del_fem::{mitc_tri3::mass_lumped_plate_bending, Refusal};
+///
+/// let vtx2xy = [0.0, 0.0, 6.0, 0.0, 0.0, 6.0, 6.0, 6.0]; // a square
+/// let mut vtx2mass = [0.0; 12];
+/// mass_lumped_plate_bending(&[0, 1, 2, 1, 3, 2], &vtx2xy, 1.0, 2.0, &mut vtx2mass)?;
+/// assert_eq!(vtx2mass, [12.0, 1.0, 1.0, 24.0, 2.0, 2.0, 24.0, 2.0, 2.0, 12.0, 1.0, 1.0]);
+///
+/// mass_lumped_plate_bending(&[0, 2, 1], &vtx2xy, 1.0, 2.0, &mut vtx2mass)?; // clockwise
+/// assert_eq!(vtx2mass[..3], [-12.0, -1.0, -1.0]);
+///
+/// let four = mass_lumped_plate_bending(&[0, 1, 2, 1], &vtx2xy, 1.0, 2.0, &mut vtx2mass);
+/// assert_eq!(four, Err(Refusal::BadLength));
+/// let nowhere = mass_lumped_plate_bending(&[0, 1, 4], &vtx2xy, 1.0, 2.0, &mut vtx2mass);
+/// assert_eq!(nowhere, Err(Refusal::BadName));
+/// # Ok::<(), Refusal>(())
+/// ```
 pub fn mass_lumped_plate_bending(
     tri2vtx: &[usize],
     vtx2xy: &[f64],

@@ -5,7 +5,9 @@ use std::fmt;
 /// ```
 /// use del_fem::{mitc_tri3, Refusal};
 ///
-/// let refusal = mitc_tri3::mass_lumped_plate_bending(&[0, 1, 2, 1], &[], 1.0, 2.0, &mut []).unwrap_err();
+/// let four_names = [0, 1, 2, 1];
+/// let answer = mitc_tri3::mass_lumped_plate_bending(&four_names, &[], 1.0, 2.0, &mut []);
+/// let refusal = answer.unwrap_err();
 /// assert_eq!(refusal, Refusal::BadLength);
 /// assert_eq!(refusal.number(), 1);
 /// assert_eq!(refusal.to_string(), "refused (1): a length or a limit is wrong");

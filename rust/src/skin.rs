@@ -1,9 +1,35 @@
 //! The StVK energy of a whole skin.
+//!
+//! A skin that moves as it is has neither energy nor forces (here no operation rounds):
+//!
+//! ```
+//! use del_fem::skin::wdw;
+//!
+//! let rest = [0.0, 0.0, 0.0, 1.0, 0.0, 0.0, 0.0, 1.0, 0.0, 1.0, 1.0, 0.0];
+//! let moved = rest.map(|x| x + 4.0);
+//! let mut vtx2dw = [7.5; 12];
+//! assert_eq!(wdw(&rest, &moved, &[0, 1, 2, 1, 3, 2], 1.0, 1.0, &mut vtx2dw)?, 0.0);
+//! assert_eq!(vtx2dw, [0.0; 12]);
+//! # Ok::<(), del_fem::skin::Refused>(())
+//! ```
 use crate::{ffi, Refusal};
 use std::fmt;
 
 /// Why a skin has no energy, and where. Lengths and names are refused before any triangle is looked at and have no place, and of [`Refusal::Unknown`] none is known; the
 /// option says so, 0 being the first triangle's.
+///
+/// ```
+/// use del_fem::{skin, Refusal};
+///
+/// // Corners 0, 1 and 3 stand on a line.
+/// let rest = [0.0, 0.0, 0.0, 1.0, 0.0, 0.0, 0.0, 1.0, 0.0, 2.0, 0.0, 0.0];
+/// let mut vtx2dw = [0.0; 12];
+/// let answer = skin::wdw(&rest, &rest, &[0, 1, 2, 0, 1, 3], 0.0, 1.0, &mut vtx2dw);
+/// let refused = answer.unwrap_err();
+/// assert_eq!(refused.refusal, Refusal::ZeroDivisor);
+/// assert_eq!(refused.place, Some(1));
+/// assert_eq!(refused.to_string(), "refused (4): a divisor is zero, at place 1");
+/// ```
 #[derive(Clone, Copy, Debug, PartialEq, Eq, Hash)]
 pub struct Refused {
     pub refusal: Refusal,
@@ -35,9 +61,22 @@ impl std::error::Error for Refused {}
 /// The energy of the skin with the points `vtx2ini` at rest and `vtx2def` deformed, and its gradient by the deformed points into `vtx2dw`: three numbers for each point
 /// in all three lists. Both are sums of what [`crate::stvk_tri3::wdwddw_`] gives, in the order of `tri2vtx` from +0.
 ///
-/// Refused are lists of different lengths or of a length that 3 does not divide, more than [`crate::MAX_VERTICES`] or [`crate::MAX_TRIANGLES`], a name of no vertex; then the first
-/// triangle that the kernel refuses, its Hessian included; then a sum that is not finite. Without triangles nothing but the lengths is looked at. After a refusal with a
-/// place the buffer is +0 throughout; [`Refusal::BadLength`] and [`Refusal::BadName`] leave it as it was.
+/// Refused are lists of different lengths or of a length that 3 does not divide, more than [`crate::MAX_VERTICES`] or [`crate::MAX_TRIANGLES`], a name of no vertex;
+/// then the first triangle that the kernel refuses, its Hessian included; then a sum that is not finite. Without triangles nothing but the lengths is looked at.
+/// After a refusal with a place the buffer is +0 throughout; [`Refusal::BadLength`] and [`Refusal::BadName`] leave it as it was.
+///
+/// ```
+/// use del_fem::skin::wdw;
+///
+/// // A square of two triangles, pulled to twice its length in x: 1.125 each.
+/// let rest = [0.0, 0.0, 0.0, 1.0, 0.0, 0.0, 0.0, 1.0, 0.0, 1.0, 1.0, 0.0];
+/// let pulled = [0.0, 0.0, 0.0, 2.0, 0.0, 0.0, 0.0, 1.0, 0.0, 2.0, 1.0, 0.0];
+/// let mut vtx2dw = [0.0; 12];
+/// let w = wdw(&rest, &pulled, &[0, 1, 2, 1, 3, 2], 0.0, 1.0, &mut vtx2dw)?;
+/// assert_eq!(w, 2.25);
+/// assert_eq!(vtx2dw, [-3.0, 0.0, 0.0, 3.0, 0.0, 0.0, -3.0, 0.0, 0.0, 3.0, 0.0, 0.0]);
+/// # Ok::<(), del_fem::skin::Refused>(())
+/// ```
 pub fn wdw(
     vtx2ini: &[f64],
     vtx2def: &[f64],

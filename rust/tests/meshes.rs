@@ -1,6 +1,8 @@
-//! Mesh files through the safe crate: the stored ones against the table in meshes/README.md, each beginning of one, and the way from a file to masses.
+//! Mesh files through the safe crate: the stored ones against the table in meshes/README.md, each beginning of one, and the way from a file to masses, which are
+//! those of a flat wall.
 use del_fem::mesh::{self, Mesh, Refused};
 use del_fem::{mitc_tri3, Refusal};
+use std::error::Error;
 use std::path::PathBuf;
 
 fn folder() -> PathBuf {
@@ -122,28 +124,99 @@ const SQUARE: [[f64; 3]; 4] = [
 ];
 const NAMES: [usize; 6] = [0, 1, 2, 1, 3, 2];
 
+/// Its masses for density 2 and thickness 1.
+const MASSES: [f64; 12] = [
+    12.0, 1.0, 1.0, 24.0, 2.0, 2.0, 24.0, 2.0, 2.0, 12.0, 1.0, 1.0,
+];
+
+type Wall = (Vec<[f64; 3]>, Vec<usize>);
+
+/// The points and the names of a file.
+fn wall(file: &[u8]) -> Result<Wall, Refused> {
+    let Mesh { points, triangles } = mesh::read(file)?;
+    let (block, cells) = (mesh::points(file)?, mesh::cells(file)?);
+    let coordinate = |point, axis| mesh::coordinate(block, point, axis).expect("a coordinate");
+    let vtx2xyz = (0..points)
+        .map(|point| std::array::from_fn(|axis| coordinate(point, axis)))
+        .collect();
+    let tri2vtx = (0..3 * triangles)
+        .map(|i| mesh::name(cells, i / 3, i % 3).expect("a name"))
+        .collect();
+    Ok((vtx2xyz, tri2vtx))
+}
+
+/// Masses by x and y, whatever z is.
+fn masses_in_plan((vtx2xyz, tri2vtx): &Wall) -> Result<Vec<f64>, Refusal> {
+    let vtx2xy: Vec<_> = vtx2xyz.iter().flat_map(|p| [p[0], p[1]]).collect();
+    let mut vtx2mass = vec![-7.5; 3 * vtx2xyz.len()];
+    mitc_tri3::mass_lumped_plate_bending(tri2vtx, &vtx2xy, 1.0, 2.0, &mut vtx2mass)?;
+    Ok(vtx2mass)
+}
+
+/// Masses take x and y: a wall that stands upright weighs 0 there and a folded one too little, with `Ok`. So a wall is refused unless all its z are one value; a NaN
+/// equals nothing and fails.
+fn masses(file: &[u8]) -> Result<Vec<f64>, Box<dyn Error>> {
+    let wall = wall(file)?;
+    if !wall.0.iter().all(|p| p[2] == wall.0[0][2]) {
+        return Err("the wall is not flat: its z are not one value".into());
+    }
+    Ok(masses_in_plan(&wall)?)
+}
+
+/// The file of the square with other points in it.
+fn square_at(points: [[f64; 3]; 4]) -> Vec<u8> {
+    let mut file = load("two");
+    let place = mesh::points(&file).unwrap().as_ptr() as usize - file.as_ptr() as usize;
+    let block = points.concat().into_iter().flat_map(f64::to_be_bytes);
+    for (at, byte) in block.enumerate() {
+        file[place + at] = byte;
+    }
+    file
+}
+
 #[test]
 fn from_a_file_to_masses() {
     let file = load("two");
-    let Mesh { points, triangles } = mesh::read(&file).expect("a mesh");
-    let (block, cells) = (mesh::points(&file).unwrap(), mesh::cells(&file).unwrap());
-    let coordinate = |point, axis| mesh::coordinate(block, point, axis).expect("a coordinate");
-    let vtx2xyz: Vec<[f64; 3]> = (0..points)
-        .map(|point| std::array::from_fn(|axis| coordinate(point, axis)))
-        .collect();
-    let tri2vtx: Vec<_> = (0..3 * triangles)
-        .map(|i| mesh::name(cells, i / 3, i % 3).expect("a name"))
-        .collect();
+    let (vtx2xyz, tri2vtx) = wall(&file).expect("a mesh");
     assert_eq!(vtx2xyz, SQUARE);
     assert_eq!(tri2vtx, NAMES);
-    let vtx2xy: Vec<_> = vtx2xyz.iter().flat_map(|p| [p[0], p[1]]).collect();
-    let mut vtx2mass = vec![-7.5; 3 * points];
-    mitc_tri3::mass_lumped_plate_bending(&tri2vtx, &vtx2xy, 1.0, 2.0, &mut vtx2mass)
-        .expect("the masses of example 3");
-    assert_eq!(
-        vtx2mass,
-        [12.0, 1.0, 1.0, 24.0, 2.0, 2.0, 24.0, 2.0, 2.0, 12.0, 1.0, 1.0]
-    );
+    assert_eq!(masses(&file).expect("the masses of example 3"), MASSES);
+}
+
+#[test]
+fn only_a_flat_wall_gets_masses() {
+    let refused = |file: &[u8]| masses(file).expect_err("z differ").to_string();
+    let plan = |file: &[u8]| masses_in_plan(&wall(file).unwrap()).expect("no word said");
+    let upright = square_at(SQUARE.map(|[x, y, z]| [x, z, y]));
+    assert_eq!(plan(&upright), [0.0; 12]);
+    assert!(refused(&upright).contains("not flat"));
+    // 45 degrees.
+    let leaning = square_at(SQUARE.map(|[x, y, _]| [x, y / 2.0, y / 2.0]));
+    assert_eq!(plan(&leaning), MASSES.map(|mass| mass / 2.0));
+    assert!(refused(&leaning).contains("not flat"));
+    let folded = load("folded");
+    assert!(plan(&folded).iter().all(|mass| *mass > 0.0));
+    assert!(refused(&folded).contains("not flat"));
+}
+
+#[test]
+fn one_z_is_one_number() {
+    for z in [5.0, -0.0, f64::MAX, 5e-324] {
+        let lifted = square_at(SQUARE.map(|[x, y, _]| [x, y, z]));
+        assert_eq!(masses(&lifted).expect("a flat wall"), MASSES, "z = {z}");
+    }
+    let mut points = SQUARE;
+    points[3][2] = -0.0;
+    assert_eq!(masses(&square_at(points)).expect("both zeros"), MASSES);
+    for z in [5e-324, f64::NAN, f64::INFINITY] {
+        for corner in 0..4 {
+            let mut points = SQUARE;
+            points[corner][2] = z;
+            assert!(masses(&square_at(points)).is_err(), "{corner}, z = {z}");
+        }
+    }
+    let nowhere = square_at(SQUARE.map(|[x, y, _]| [x, y, f64::NAN]));
+    assert!(masses(&nowhere).is_err());
 }
 
 #[test]
