@@ -7,14 +7,17 @@ use std::process::{Command, Stdio};
 use std::{env, fs};
 
 const ORIGINALS: [&str; 3] = ["mitc_tri3.rs", "quadratic_bending.rs", "stvk_tri3.rs"];
-const TREE: [&str; 6] = [
+const TREE: [&str; 7] = [
     ".cargo",
     "Cargo.toml",
     "del_geo_core",
     "del_fem_cpu",
     "mutants",
+    "sha256",
     "src",
 ];
+/// Sums of the originals, without which the oracle does not build.
+const SUMS: &str = "del_fem_cpu/originals.sha256";
 
 /// One slip: a name, a file and the substitutions in it.
 struct Mutant {
@@ -189,6 +192,14 @@ impl Bench {
         output.status.success().then_some(output.stdout)
     }
 
+    /// Has the copy take an original with another text.
+    fn sum_replaced(&self, old: &str, new: &str) {
+        let file = self.tree.join(SUMS);
+        let sums = fs::read_to_string(&file).unwrap();
+        let [old, new] = [old, new].map(|text| sha256::sum(text.as_bytes()));
+        fs::write(&file, sums.replace(&old, &new)).unwrap();
+    }
+
     fn verdict(&self, mutant: &Mutant, records: &[u8], expected: &[u8]) -> String {
         let original = ORIGINALS.contains(&mutant.file.as_str());
         let folder = if original {
@@ -198,9 +209,16 @@ impl Bench {
         };
         let file = folder.join(&mutant.file);
         let text = fs::read_to_string(&file).unwrap_or_else(|e| panic!("{}: {e}", mutant.file));
-        fs::write(&file, edited(&text, mutant)).unwrap();
+        let slipped = edited(&text, mutant);
+        if original {
+            self.sum_replaced(&text, &slipped);
+        }
+        fs::write(&file, &slipped).unwrap();
         let built = self.built();
-        fs::write(&file, text).unwrap();
+        if original {
+            self.sum_replaced(&slipped, &text);
+        }
+        fs::write(&file, &text).unwrap();
         assert!(built, "{} does not build", mutant.name);
         match self.run(&["answer"], records) {
             None => "caught, it stops".to_string(),
