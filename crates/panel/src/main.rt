@@ -48,13 +48,10 @@ fn put_table(vtx2mass: &[f64]) {
 }
 
 fn put_refusal(number: u32) {
+    let mut words = [0u8; 64];
+    let length = words::meaning(number, &mut words);
     text(b"refused: ");
-    match number {
-        refusal::BAD_LENGTH => text(b"a length or a limit is wrong"),
-        refusal::BAD_NAME => text(b"a triangle names a vertex that does not exist"),
-        refusal::BAD_INPUT => text(b"a number is NaN or infinite"),
-        _ => text(b"a mass is NaN or infinite"),
-    }
+    text(&words[..length]);
     text(b" (");
     number::put_whole(number as u64);
     text(b")\n");

@@ -1,14 +1,16 @@
--- A zero follows every meaning in the 64 bytes, so that they are a text for C: each has at most 63 bytes, by one computed test over the table.
+-- A zero follows every meaning in the 64 bytes, so that they are a text of C: each has at most 63 bytes, by one computed test over the table.
 use mathlib.Core.Path.{_≡_, refl}
 use mathlib.Core.Bool.{Bool, true, false, cond}
 use mathlib.Core.List.{List, [], _∷_}
-use Prim.Native.Nat.{ℕ, _<_}
+use Prim.Native.Nat.{ℕ, _≤_, _<_}
+use native.Mathlib.Omega.{arith}
 use lib.Dec.{eqb, ltb, lit<}
 use lib.ListN.{length}
 use borrow.Author.Tests.{ltb-true}
 use Rattle.float.specs.Lists.{every}
+use Rattle.float.proofs.Fill.{table-length}
 use Rattle.float.proofs.Scan.{both}
-use Rattle.words.specs.Words.{meanings, lookup}
+use Rattle.words.specs.Words.{meanings, lookup, IsMeaning}
 
 either : (test : Bool) (s t : List ℕ) → length s < 64 → length t < 64 → length (cond test s t) < 64
 either true s t h k = h
@@ -24,3 +26,7 @@ found (row ∷ rows) number e =
 pub shorter : (number : ℕ) → length (lookup meanings number) < 64
 unfolding every
 shorter number = found meanings number refl
+
+-- the words are within what was lent
+pub within : (number : ℕ) {r : ℕ} {words : List ℕ} → IsMeaning number r words → r ≤ length words
+within number is = rw (is .0, is .1, table-length _ 64) (omega (arith, shorter number))
