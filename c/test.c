@@ -1,6 +1,6 @@
 /*
- * Calls every exported function from C, on the starred examples of docs/01-scope.md 7, on skins worked by hand and on mesh files of meshes/files, and looks at the raw bits of the root's
- * NaNs, which no statement sees. It is run at the root of the repository.
+ * Calls every exported function from C, on the starred examples of docs/01-scope.md 7, on skins worked by hand and on mesh files of meshes/files, and looks at the raw bits of NaNs, which no
+ * statement sees: the root's, and those that a refused call has to leave in a lent buffer. It is run at the root of the repository.
  */
 #include "del_fem.h"
 #include <stdio.h>
@@ -46,20 +46,44 @@ static int all_plus_zero(const double *xs, int n) {
     return 1;
 }
 
-/* what a lent buffer holds on entry */
+/* What entry i of a lent buffer holds on entry: a NaN with digits of its own, quiet or signalling, of either sign. A store of another number, or of another NaN, is seen. */
+static uint64_t scribbled(int i) {
+    static const uint64_t nans[4] = {0x7FF8000000C0FFEE, 0xFFF8000000C0FFEE, 0x7FF0000000C0FFEE, 0xFFF0000000C0FFEE};
+    return nans[i % 4] + (uint64_t)i * 0x10000000;
+}
+
+/* Bytes are copied: an operation on a NaN would make it another. */
 static void scribble(double *xs, int n) {
     for (int i = 0; i < n; i++) {
-        xs[i] = -7.5;
+        uint64_t w = scribbled(i);
+        memcpy(xs + i, &w, sizeof w);
     }
 }
 
-static int untouched(const double *xs, int n) {
-    for (int i = 0; i < n; i++) {
-        if (xs[i] != -7.5) {
+/* each byte of the entries from `from` on is as scribble left it */
+static int untouched(const double *xs, int from, int n) {
+    for (int i = from; i < from + n; i++) {
+        uint64_t w = scribbled(i);
+        if (memcmp(xs + i, &w, sizeof w) != 0) {
             return 0;
         }
     }
     return 1;
+}
+
+static void version(void) {
+    const uint32_t numbers[8] = {0, 1, 2, 3, 4, 5, 8, 4294967295u};
+    const char *const meanings[8] = {"accepted", "a length or a limit is wrong", "a triangle names a vertex that does not exist", "a number that is read is a NaN or an infinity",
+        "a divisor is zero", "the finished answer has a NaN or an infinity in it", "the mesh file is not as it has to be", "no number that this version gives"};
+    int said = 1;
+    check("the archive fits the header", del_fem_version() == DEL_FEM_VERSION);
+    for (int i = 0; i < 8; i++) {
+        char words[DEL_FEM_WORDS + 1], want[DEL_FEM_WORDS] = {0};
+        memset(words, 'x', sizeof words);
+        memcpy(want, meanings[i], strlen(meanings[i]));
+        said = said && del_fem_meaning(numbers[i], words) == strlen(meanings[i]) && memcmp(words, want, DEL_FEM_WORDS) == 0 && words[DEL_FEM_WORDS] == 'x';
+    }
+    check("each number has its meaning in words, and zeros behind", said);
 }
 
 static void roots(void) {
@@ -86,7 +110,7 @@ static void bending(void) {
     scribble(values, DEL_FEM_BENDING_VALUES + 1);
     uint32_t number = del_fem_quadratic_bending_wdw(ini, def, values);
     check("bending, example 11", number == DEL_FEM_ACCEPTED && bits(values[2]) == 0xBFEBB67AE8584CAA);
-    check("bending writes no further", untouched(values + DEL_FEM_BENDING_VALUES, 1));
+    check("bending writes no further", untouched(values, DEL_FEM_BENDING_VALUES, 1));
     number = del_fem_quadratic_bending_wdw(def, def, values);
     check("bending refuses an edge of length 0", number == DEL_FEM_ZERO_DIVISOR && all_plus_zero(values, DEL_FEM_BENDING_VALUES));
 }
@@ -99,7 +123,7 @@ static void strain(void) {
     scribble(values, DEL_FEM_STRAIN_VALUES + 1);
     uint32_t number = del_fem_stvk_tri3_wdw(ini, def, values);
     check("strain, example 10", number == DEL_FEM_ACCEPTED && values[0] == 1.5 && values[1] == 0 && values[2] == 0);
-    check("strain writes no further", untouched(values + DEL_FEM_STRAIN_VALUES, 1));
+    check("strain writes no further", untouched(values, DEL_FEM_STRAIN_VALUES, 1));
     number = del_fem_stvk_tri3_wdw(flat, def, values);
     check("strain refuses a flat triangle", number == DEL_FEM_ZERO_DIVISOR && all_plus_zero(values, DEL_FEM_STRAIN_VALUES));
 }
@@ -115,7 +139,7 @@ static void green_lagrange(void) {
     number = del_fem_stvk_tri3_wdw_green_lagrange(ini, def, values);
     check("Green-Lagrange strain, example 15", number == DEL_FEM_ACCEPTED && values[0] == 1.5 && values[1] == 0 && values[2] == 0);
     check("Green-Lagrange strain, xx by x of corners 0, 1 and 2", values[3] == -1 && values[6] == 1 && values[9] == 0);
-    check("Green-Lagrange strain writes no further", untouched(values + DEL_FEM_STRAIN_VALUES, 1));
+    check("Green-Lagrange strain writes no further", untouched(values, DEL_FEM_STRAIN_VALUES, 1));
     number = del_fem_stvk_tri3_wdw_green_lagrange(flat, def, values);
     check("Green-Lagrange strain refuses a flat triangle", number == DEL_FEM_ZERO_DIVISOR && all_plus_zero(values, DEL_FEM_STRAIN_VALUES));
 }
@@ -128,7 +152,7 @@ static void stvk(void) {
     scribble(values, DEL_FEM_ENERGY_VALUES + 1);
     uint32_t number = del_fem_stvk_tri3_wdwddw_(p0, p1, 0, 1, values);
     check("StVK, example 9", number == DEL_FEM_ACCEPTED && values[0] == 1.125 && values[1] == -3 && values[4] == 3 && values[7] == 0);
-    check("StVK writes no further", untouched(values + DEL_FEM_ENERGY_VALUES, 1));
+    check("StVK writes no further", untouched(values, DEL_FEM_ENERGY_VALUES, 1));
     number = del_fem_stvk_tri3_wdwddw_(flat, p1, 0, 1, values);
     check("StVK, example 12", number == DEL_FEM_ZERO_DIVISOR && all_plus_zero(values, DEL_FEM_ENERGY_VALUES));
 }
@@ -140,7 +164,7 @@ static void plate(void) {
     scribble(values, DEL_FEM_ENERGY_VALUES + 1);
     uint32_t number = del_fem_mitc_tri3_w_dw_ddw_plate_bending(p, u, 2, 0, 1, values);
     check("plate, example 8", number == DEL_FEM_ACCEPTED && values[0] == 2);
-    check("plate writes no further", untouched(values + DEL_FEM_ENERGY_VALUES, 1));
+    check("plate writes no further", untouched(values, DEL_FEM_ENERGY_VALUES, 1));
     number = del_fem_mitc_tri3_w_dw_ddw_plate_bending(p, u, 0, 0, 1, values);
     check("plate, example 8 at thickness 0", number == DEL_FEM_ZERO_DIVISOR && all_plus_zero(values, DEL_FEM_ENERGY_VALUES));
     number = del_fem_mitc_tri3_w_dw_ddw_plate_bending(p, u, of_bits(0x7FF0000000000000), 0, 1, values);
@@ -149,9 +173,13 @@ static void plate(void) {
 
 static const double XY[8] = {0, 0, 6, 0, 0, 6, 6, 6};
 
-static uint32_t masses_of(const size_t *tri2vtx, size_t len, double *mass) {
+static uint32_t masses_with(const size_t *tri2vtx, size_t len, const double *xy, double thick, double rho, double *mass) {
     scribble(mass, 13);
-    return del_fem_mitc_tri3_mass_lumped_plate_bending(tri2vtx, len, XY, 8, 1, 2, mass, 12);
+    return del_fem_mitc_tri3_mass_lumped_plate_bending(tri2vtx, len, xy, 8, thick, rho, mass, 12);
+}
+
+static uint32_t masses_of(const size_t *tri2vtx, size_t len, double *mass) {
+    return masses_with(tri2vtx, len, XY, 1, 2, mass);
 }
 
 static int are(const double *mass, const double *want) {
@@ -168,11 +196,24 @@ static void masses(void) {
     check("masses, example 1", masses_of(one, 3, mass) == DEL_FEM_ACCEPTED && are(mass, left));
     check("masses, example 2", masses_of(turned, 3, mass) == DEL_FEM_ACCEPTED && are(mass, right));
     check("masses, example 3", masses_of(panel, 6, mass) == DEL_FEM_ACCEPTED && are(mass, both));
-    check("masses write no further", untouched(mass + 12, 1));
+    check("masses write no further", untouched(mass, 12, 1));
     check("masses, example 4: no names", masses_of(one, 0, mass) == DEL_FEM_ACCEPTED && all_plus_zero(mass, 12));
-    check("masses, example 4: four names", masses_of(four, 4, mass) == DEL_FEM_BAD_LENGTH && untouched(mass, 12));
-    check("masses, example 4: a name 4", masses_of(missing, 3, mass) == DEL_FEM_BAD_NAME && untouched(mass, 12));
+    check("masses, example 4: four names", masses_of(four, 4, mass) == DEL_FEM_BAD_LENGTH && untouched(mass, 0, 13));
+    check("masses, example 4: a name 4", masses_of(missing, 3, mass) == DEL_FEM_BAD_NAME && untouched(mass, 0, 13));
     check("masses, example 4: a name 3", masses_of(far, 3, mass) == DEL_FEM_ACCEPTED);
+
+    const double nan = of_bits(NAN_BITS), infinity = of_bits(0x7FF0000000000000), huge = of_bits(0x7FC0000000000000); /* 2^1021 */
+    double xy[8];
+    memcpy(xy, XY, sizeof xy);
+    xy[7] = nan;
+    scribble(mass, 13);
+    check("masses, a place too many",
+        del_fem_mitc_tri3_mass_lumped_plate_bending(panel, 6, XY, 8, 1, 2, mass, 13) == DEL_FEM_BAD_LENGTH && untouched(mass, 0, 13));
+    check("masses, a thickness that is a NaN", masses_with(panel, 6, XY, nan, 2, mass) == DEL_FEM_BAD_INPUT && untouched(mass, 0, 13));
+    check("masses, an infinite density, no names", masses_with(panel, 0, XY, 1, infinity, mass) == DEL_FEM_BAD_INPUT && untouched(mass, 0, 13));
+    check("masses, a coordinate that is a NaN", masses_with(panel, 6, xy, 1, 2, mass) == DEL_FEM_BAD_INPUT && untouched(mass, 0, 13));
+    check("masses, a NaN at a vertex without a name", masses_with(one, 3, xy, 1, 2, mass) == DEL_FEM_ACCEPTED && are(mass, left) && untouched(mass, 12, 1));
+    check("masses too large", masses_with(panel, 6, XY, huge, 2, mass) == DEL_FEM_BAD_ANSWER && all_plus_zero(mass, 12) && untouched(mass, 12, 1));
 }
 
 /* A unit square at rest, and pulled to twice its length in x; the number behind is for lengths that are too long. */
@@ -204,15 +245,15 @@ static struct skin skin_of_four(const double *def, const size_t *tri2vtx, size_t
 
 /* Each of these looks at all that was lent, by bits. */
 static int accepted(struct skin s, double w, const double *dw) {
-    return s.number == DEL_FEM_ACCEPTED && s.place == 0 && bits(s.w) == bits(w) && are(s.dw, dw) && untouched(s.dw + 12, 2);
+    return s.number == DEL_FEM_ACCEPTED && s.place == 0 && bits(s.w) == bits(w) && are(s.dw, dw) && untouched(s.dw, 12, 2);
 }
 
 static int left_alone(struct skin s, uint32_t number) {
-    return s.number == number && s.place == 0 && bits(s.w) == 0 && untouched(s.dw, 14);
+    return s.number == number && s.place == 0 && bits(s.w) == 0 && untouched(s.dw, 0, 14);
 }
 
 static int refused(struct skin s, uint32_t number, size_t place) {
-    return s.number == number && s.place == place && bits(s.w) == 0 && all_plus_zero(s.dw, 12) && untouched(s.dw + 12, 2);
+    return s.number == number && s.place == place && bits(s.w) == 0 && all_plus_zero(s.dw, 12) && untouched(s.dw, 12, 2);
 }
 
 /*
@@ -251,7 +292,7 @@ static void skins(void) {
 
 /* What the three calls over a file give, and the file. */
 struct mesh {
-    uint8_t file[512];
+    uint8_t file[2048];
     size_t len;
     uint32_t read, points, cells;
     size_t n, m, place, points_place, points_length, cells_place, cells_length;
@@ -299,6 +340,16 @@ static int no_name(const uint8_t *cells, size_t len, size_t triangle, size_t cor
     return del_fem_mesh_name(cells, len, triangle, corner) == DEL_FEM_NO_NAME;
 }
 
+/* All z are one value: only then are x and y the panel's own, and masses taken from them its masses. A NaN is not equal to anything. */
+static int is_flat(const uint8_t *points, size_t length) {
+    for (size_t i = 0; i < length / 24; i++) {
+        if (!(del_fem_mesh_coordinate(points, length, i, 2) == del_fem_mesh_coordinate(points, length, 0, 2))) {
+            return 0;
+        }
+    }
+    return 1;
+}
+
 /* Counts, places and where the blocks begin are those of the table in meshes/README.md; the square is that of the scope's examples. */
 static void meshes(void) {
     const size_t names[6] = {0, 1, 2, 1, 3, 2};
@@ -321,20 +372,22 @@ static void meshes(void) {
     const uint8_t *points = square.file + square.points_place, *cells = square.file + square.cells_place;
     size_t tri2vtx[6];
     double vtx2xy[8], mass[13];
-    int flat = 1, here = 1;
+    int here = 1;
+    struct mesh folded = mesh_of("folded", WHOLE);
+    check("the square is flat, a folded wall is not",
+        is_flat(points, square.points_length) && mesh_is(folded, 25, 32, folded.points_place, folded.cells_place) && !is_flat(folded.file + folded.points_place, folded.points_length));
     for (size_t i = 0; i < 4; i++) {
         vtx2xy[2 * i] = del_fem_mesh_coordinate(points, square.points_length, i, 0);
         vtx2xy[2 * i + 1] = del_fem_mesh_coordinate(points, square.points_length, i, 1);
-        flat = flat && bits(del_fem_mesh_coordinate(points, square.points_length, i, 2)) == 0;
     }
     for (size_t i = 0; i < 6; i++) {
         tri2vtx[i] = del_fem_mesh_name(cells, square.cells_length, i / 3, i % 3);
     }
-    check("coordinates of the square", memcmp(vtx2xy, XY, sizeof XY) == 0 && flat);
+    check("coordinates of the square", memcmp(vtx2xy, XY, sizeof XY) == 0);
     check("names of the square", memcmp(tri2vtx, names, sizeof names) == 0);
     scribble(mass, 13);
     check("masses, example 3, from a mesh file",
-        del_fem_mitc_tri3_mass_lumped_plate_bending(tri2vtx, 6, vtx2xy, 8, 1, 2, mass, 12) == DEL_FEM_ACCEPTED && are(mass, both) && untouched(mass + 12, 1));
+        del_fem_mitc_tri3_mass_lumped_plate_bending(tri2vtx, 6, vtx2xy, 8, 1, 2, mass, 12) == DEL_FEM_ACCEPTED && are(mass, both) && untouched(mass, 12, 1));
     for (size_t i = 1; i < 9; i++) {
         here = here && bits(del_fem_mesh_coordinate(any.file + any.points_place, any.points_length, i / 3, i % 3)) == far[i];
     }
@@ -352,6 +405,7 @@ static void meshes(void) {
 }
 
 int main(void) {
+    version();
     roots();
     bending();
     strain();

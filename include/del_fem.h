@@ -1,13 +1,19 @@
 /*
- * The routines of del_fem for C99 and C++, over target/staticlib/libdel_fem.a (x86-64 Linux; built by `rt staticlib del_fem`).
+ * How heavy and how stiff thin triangles are: the routines of del_fem for C99 and C++, over target/staticlib/libdel_fem.a (x86-64 Linux; built by `rt staticlib del_fem`).
  *
- * Each routine's source is proved to give what docs/01-scope.md says, on every input, to end, and to read and write nothing but what it is lent; the compiler and the border to C are not
- * part of the proof (c/run looks at them). There is no state between calls: several threads may call at once, each with a buffer of its own.
- * Nothing is allocated; of the C library memcpy and memset are used, no more.
+ * Each routine's source is proved to give what docs/01-scope.md says, on every input, to end, and to read and write nothing but what it is lent. Not part of the proof, and run by c/run: the
+ * compiler, the border to C, and the bits of a NaN (docs/EXCEPTIONS.md), for the logic knows one NaN and no more of it: that a NaN which a function gives is 0x7FF8000000000000, and
+ * that a NaN in a buffer which is left as it was keeps its sign and its digits. del_fem_root_sqrt_word, which takes and gives whole numbers, is proved to the last bit for NaNs too.
+ *
+ * There is no state between calls: several threads may call at once, each with a buffer of its own. Nothing is allocated; of the C library memcpy and memset are used, no more.
+ *
+ * Units are the caller's, any that fit each other. With whole millimetres for coordinates, kg/m^3 for the density and metres for the thickness, masses come out in milligrams; coordinates
+ * are whole numbers then, so the proved bound on the masses holds (01-scope 6.2: sizes up to 1,048,576, density and thickness from 2^-40 to 2^40).
  *
  * What the caller owes:
- *   - every pointer is aligned, is not null (not even for a list of no entries) and has as many entries behind it as is stated here;
- *   - what a function writes to (`values`, vtx2mass, vtx2dw, place, w, n, m, length) overlaps no other argument (the others may overlap each other);
+ *   - every pointer is aligned, is not null, and has as many entries behind it as is stated here. NULL is not allowed even with length 0, since the compiler may take any pointer for one to
+ *     something: an empty list is any aligned address with length 0;
+ *   - what a function writes to (`values`, vtx2mass, vtx2dw, place, w, n, m, length, words) overlaps no other argument (the others may overlap each other);
  *   - floating point is as a program starts with it: rounding to nearest, no exception unmasked (a kernel divides before it refuses), subnormal numbers not flushed to zero (a program that is
  *     linked with -ffast-math may flush them). Exception flags may be left raised.
  *
@@ -24,6 +30,13 @@
 extern "C" {
 #endif
 
+/*
+ * Which header the archive fits: 1000 times the major number and the minor one. The major number grows where a call of before no longer means the same, the minor one where something was
+ * added. A program that was built with this header may use an archive of the same major number and no lower minor one.
+ */
+#define DEL_FEM_VERSION 1000u
+uint32_t del_fem_version(void);
+
 /* What is returned: the lowest number whose condition holds (01-scope 2.1); of a skin's triangles the first in the list that is refused gives its own. */
 #define DEL_FEM_ACCEPTED 0u     /* none of the others */
 #define DEL_FEM_BAD_LENGTH 1u   /* masses and skin alone: a length or a limit is wrong */
@@ -32,6 +45,13 @@ extern "C" {
 #define DEL_FEM_ZERO_DIVISOR 4u /* a kernel's divisor is zero, of either sign */
 #define DEL_FEM_BAD_ANSWER 5u   /* the finished answer has a NaN or an infinity in it */
 #define DEL_FEM_BAD_FILE 8u     /* mesh files alone: the file is not as it has to be */
+
+/*
+ * What a number means in words, for people: fills all 64 bytes, whatever was in them, with a text and zeros behind it, a string of C. Returns how many bytes the text has, 63 at most. A number
+ * that this archive does not give has words as well, which say so.
+ */
+#define DEL_FEM_WORDS 64
+size_t del_fem_meaning(uint32_t number, char words[DEL_FEM_WORDS]);
 
 /* How many numbers a kernel's `values` hold. */
 #define DEL_FEM_BENDING_VALUES 39 /* w 3, dwdp 36 */
@@ -47,10 +67,11 @@ extern "C" {
 
 /*
  * IEEE 754's squareRoot, to nearest (01-scope 4). -0 gives -0; every NaN and everything below zero gives the NaN with the bits 0x7FF8000000000000. It refuses nothing.
+ * Proved but for those bits, which are run.
  */
 double del_fem_root_sqrt(double x);
 
-/* The same on bit patterns: w and the answer are the bits of a double. */
+/* The same on bit patterns: w and the answer are the bits of a double. Proved, the NaN's bits too. */
 uint64_t del_fem_root_sqrt_word(uint64_t w);
 
 /*
@@ -92,6 +113,8 @@ uint32_t del_fem_mitc_tri3_w_dw_ddw_plate_bending(
 
 /*
  * The lumped masses of a panel of thickness thick and density rho (01-scope 5.3). Each length counts entries.
+ * The panel is flat: coordinates are x and y in its own plane. Of a mesh in space take them only where all z are one value: a wall that stands upright would weigh 0, a folded one too
+ * little, and number 0 would be returned with either. A triangle whose corners run clockwise takes its mass away.
  * tri2vtx: three vertices for each triangle. vtx2xy: two coordinates for each vertex; a left-over last number is not read. vtx2mass: three masses for each vertex, for its translation and its
  * two rotations.
  * Returns 1 where there are more than DEL_FEM_MAX_VERTICES vertices or DEL_FEM_MAX_TRIANGLES triangles, where 3 does not divide tri2vtx_len, or where vtx2mass_len is not three times the
@@ -153,6 +176,7 @@ uint32_t del_fem_mesh_cells(const uint8_t *file, size_t file_len, size_t *place,
 /*
  * Coordinate axis (0, 1, 2 for x, y, z) of a point, counted from 0, in a points block: file + place and length as del_fem_mesh_points finds them. The sign of zero is kept.
  * It is a NaN, which kernels, masses and skin refuse where they read it, where the file has a NaN, where axis is above 2, and where the block has no such point; it refuses nothing itself.
+ * For masses, look first whether all z are one value (is_flat in c/test.c).
  */
 double del_fem_mesh_coordinate(const uint8_t *points, size_t points_len, size_t point, size_t axis);
 
