@@ -4,8 +4,11 @@ pub const BENDING_VALUES: usize = 39;
 pub const STRAIN_VALUES: usize = 30;
 pub const ENERGY_VALUES: usize = 91;
 pub const NO_NAME: usize = 0xffff_ffff;
+pub const WORDS: usize = 64;
 
 extern "C" {
+    pub fn del_fem_version() -> u32;
+    pub fn del_fem_meaning(number: u32, words: *mut [u8; WORDS]) -> usize;
     pub fn del_fem_root_sqrt(x: f64) -> f64;
     pub fn del_fem_root_sqrt_word(w: u64) -> u64;
     pub fn del_fem_quadratic_bending_wdw(

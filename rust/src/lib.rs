@@ -67,6 +67,20 @@ pub mod stvk_tri3;
 
 pub use refusal::Refusal;
 
+/// The version of the header that this crate is written after: 1000 times the major number and the minor one.
+pub const VERSION: u32 = 1000;
+
+/// The archive's: the crate may use one of the same major number and no lower minor one.
+///
+/// ```
+/// assert_eq!(del_fem::version() / 1000, del_fem::VERSION / 1000);
+/// assert!(del_fem::version() >= del_fem::VERSION);
+/// ```
+pub fn version() -> u32 {
+    // SAFETY: takes nothing, gives a number, and touches no memory.
+    unsafe { ffi::del_fem_version() }
+}
+
 /// The most vertices that a panel, a skin or a mesh file may have.
 pub const MAX_VERTICES: usize = 65_536;
 /// The most triangles.

@@ -1,3 +1,4 @@
+use crate::ffi;
 use std::fmt;
 
 /// Why a routine gives no numbers. Where several reasons hold, the one with the lowest number is given; of a skin's triangles the first that is refused gives its own.
@@ -27,7 +28,7 @@ pub enum Refusal {
     BadAnswer,
     /// 8: a mesh file is not as it has to be.
     BadFile,
-    /// Any other number, which only a newer archive than this crate's returns. What a lent buffer then holds is not known.
+    /// Any other number, which only a newer archive than this crate's returns; its words are the archive's own. What a lent buffer then holds is not known.
     Unknown(u32),
 }
 
@@ -62,15 +63,10 @@ impl Refusal {
 
 impl fmt::Display for Refusal {
     fn fmt(&self, f: &mut fmt::Formatter) -> fmt::Result {
-        let words = match self {
-            Self::BadLength => "a length or a limit is wrong",
-            Self::BadName => "a triangle names a vertex that does not exist",
-            Self::BadInput => "a number that is read is a NaN or an infinity",
-            Self::ZeroDivisor => "a divisor is zero",
-            Self::BadAnswer => "the finished answer has a NaN or an infinity in it",
-            Self::BadFile => "the mesh file is not as it has to be",
-            Self::Unknown(_) => "a number of a newer archive, not known to this crate",
-        };
+        let mut words = [0; ffi::WORDS];
+        // SAFETY: the array is a local of the declared length.
+        let length = unsafe { ffi::del_fem_meaning(self.number(), &mut words) };
+        let words = String::from_utf8_lossy(&words[..length.min(ffi::WORDS)]);
         write!(f, "refused ({}): {words}", self.number())
     }
 }
