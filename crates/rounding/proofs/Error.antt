@@ -56,6 +56,15 @@ module _ {P c K S : ℕ} {x y : Num} where
       go : (g h : ℕ) → h * k ≡ g * u → g * P ≤ c * S → h * P * k ≤ c * S' * k
       go g h i j = omega (arith, ap (λ (z : ℕ). z * P) i, ap (λ (z : ℕ). z * c) s, mul-le-mul-right u j)
 
+  -- two approximations of one number differ by at most twice the bound
+  pub within-both : {x' : Num} → Within P c K x y S → Within P c K x' y S → Within P (2 * c) K x (scale K x') S
+  within-both {x'} a b =
+      let d = size-difference (scale K x ⊟ scale K x') (scale K x ⊟ y) (scale K x' ⊟ y) (omega arith) in
+      record { within = go (gap K x y) (gap K x' y) d (a .within) (b .within) }
+    where
+      go : (g h : ℕ) {t : ℕ} → t ≤ g + h → g * P ≤ c * S → h * P ≤ c * S → t * P ≤ 2 * c * S
+      go g h i j k = omega (arith, mul-le-mul-right P i)
+
   -- where one number is near two exact ones, these are not far apart
   pub within-apart : {d R : ℕ} {z : Num} → Within P c K x y S → Within P d K x z R → sizeOf (y ⊟ z) * P ≤ c * S + d * R
   within-apart {d} {R} {z} a b =
