@@ -2,8 +2,8 @@
  * How heavy and how stiff thin triangles are: the routines of del_fem for C99 and C++, over target/staticlib/libdel_fem.a (x86-64 Linux; built by `rt staticlib del_fem`).
  *
  * Each routine's source is proved to give what docs/01-scope.md says, on every input, to end, and to read and write nothing but what it is lent. Not part of the proof, and run by c/run: the
- * compiler, the border to C, and the bits of a NaN (docs/EXCEPTIONS.md), for the logic knows one NaN and no more of it: that a NaN which a function gives is 0x7FF8000000000000, and
- * that a NaN in a buffer which is left as it was keeps its sign and its digits. del_fem_root_sqrt_word, which takes and gives whole numbers, is proved to the last bit for NaNs too.
+ * compiler, the border to C, and the bits of a NaN (docs/EXCEPTIONS.md), for the logic knows one NaN and no more of it: that the root's NaN is 0x7FF8000000000000, and that
+ * a NaN in a buffer which is left as it was keeps its sign and its digits. del_fem_root_sqrt_word, which takes and gives whole numbers, is proved to the last bit for NaNs too.
  *
  * There is no state between calls: several threads may call at once, each with a buffer of its own. Nothing is allocated; of the C library memcpy and memset are used, no more.
  *
