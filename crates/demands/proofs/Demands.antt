@@ -1,7 +1,9 @@
 -- The three demands hold: each field is the theorem of its own crate.
+use mathlib.Core.Path.{_∙_}
 use lib.Ieee.{binary64}
 use lib.ListN.{length}
 use Rattle.strain.specs.Strain.{restOf, restOfGreenLagrange}
+use Rattle.root.proofs.RootOf.{nan-word}
 use Rattle.root.proofs.Unique as root
 use Rattle.quadratic_bending.proofs.BendingAnswer as bending
 use Rattle.stvk_tri3.proofs.StrainAnswer as strain
@@ -53,6 +55,8 @@ numbers : Demand2
 numbers = record {
   root = λ x is. is .rule;
   one-root = root.unique binary64;
+  root-word = λ w is. is .rule;
+  nan-word = λ w is a. is .same ∙ nan-word binary64 w a;
   bending = λ pIni pDef. record { bits = bending.accepted-values binary64 pIni pDef; only = bending.unique binary64 pIni pDef };
   strain = λ pIni pDef. record {
     bits = λ is h. let v = strain.accepted-values binary64 (restOf binary64) pIni pDef is h in rw (v .0, v .1);

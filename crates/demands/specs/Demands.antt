@@ -5,7 +5,7 @@ use mathlib.Core.Bool.{true}
 use mathlib.Core.List.{List}
 use mathlib.Core.Logic.{_↔_}
 use Prim.Native.Nat.{ℕ, _^_, _<_, _≤_}
-use lib.Ieee.{Float, binary64}
+use lib.Ieee.{Float, nan, binary64, ofBits}
 use lib.ListN.{length, replicate}
 use Rattle.float.specs.Lists.{cleared}
 use Rattle.float.specs.Ops.{Ops, ops}
@@ -13,7 +13,7 @@ use Rattle.refusal.specs.Refusal.{accepted, badName, badAnswer, badFile, kernel
 use Rattle.refusal.specs.Listed.{ListedExactly}
 use Rattle.refusal.specs.declared.Energy.{Energy}
 use Rattle.refusal.specs.declared.Tests.{Tests}
-use Rattle.root.specs.Root.{IsRoot, SquareRoot}
+use Rattle.root.specs.Root.{IsRoot, SquareRoot, SquareRootWord}
 use Rattle.corners.specs.Plane as plane
 use Rattle.corners.specs.Space as space
 use Rattle.bending.specs.Bending.{wdwOf}
@@ -119,9 +119,11 @@ pub record Demand1 : Type 0 where
 
 -- ---- demand 2: the numbers, bit for bit those of definitions that follow the Rust; roots by IEEE 754's rule
 pub record Demand2 : Type 0 where
-  -- the rule alone has one answer
+  -- by the rule of 01-scope 4, which alone has one answer; on words the NaN has its bits too
   pub root : (x : Float) {r : Float} → SquareRoot binary64 x r → IsRoot binary64 x r
   pub one-root : (x r q : Float) → IsRoot binary64 x r → IsRoot binary64 x q → r ≡ q
+  pub root-word : (w : ℕ) {r : ℕ} → SquareRootWord binary64 w r → IsRoot binary64 (ofBits binary64 w) (ofBits binary64 r)
+  pub nan-word : (w : ℕ) {r : ℕ} → SquareRootWord binary64 w r → IsRoot binary64 (ofBits binary64 w) nan → r ≡ 0x7ff8_0000_0000_0000
   pub bending : (pIni pDef : List (List Float)) → BendingGives (bendings.IsBending binary64 pIni pDef) (wdwOf binary64 (bendings.cornersOf pIni) (bendings.cornersOf pDef))
   pub strain : (pIni pDef : List (List Float))
       → StrainGives (strains.IsStrain binary64 pIni pDef) (valuesOf binary64 (restOf binary64 (plane.cornersOf pIni)) (space.cornersOf pDef))
