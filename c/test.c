@@ -387,7 +387,8 @@ static void meshes(void) {
     check("names of the square", memcmp(tri2vtx, names, sizeof names) == 0);
     scribble(mass, 13);
     check("masses, example 3, from a mesh file",
-        del_fem_mitc_tri3_mass_lumped_plate_bending(tri2vtx, 6, vtx2xy, 8, 1, 2, mass, 12) == DEL_FEM_ACCEPTED && are(mass, both) && untouched(mass, 12, 1));
+        is_flat(points, square.points_length) && del_fem_mitc_tri3_mass_lumped_plate_bending(tri2vtx, 6, vtx2xy, 8, 1, 2, mass, 12) == DEL_FEM_ACCEPTED
+            && are(mass, both) && untouched(mass, 12, 1));
     for (size_t i = 1; i < 9; i++) {
         here = here && bits(del_fem_mesh_coordinate(any.file + any.points_place, any.points_length, i / 3, i % 3)) == far[i];
     }

@@ -1,5 +1,5 @@
 -- The three demands on one page: what holds of whatever the routines' statements allow. That no input stops a routine or makes it read outside, and that it meets its statement, is what the check
--- of its function says; the rest is here, and `demands` (proofs/Demands.antt) is its proof.
+-- of its function says; the end theorems are here, and `demands` (proofs/Demands.antt) is their proof.
 use mathlib.Core.Path.{_≡_}
 use mathlib.Core.Bool.{true}
 use mathlib.Core.List.{List}

@@ -45,7 +45,7 @@ pub held : OffBy 0 (roundings 0) × OffBy 1 (roundings 1)
 unfolding value sumOf twiceArea weight exactShare givenTo namedBy cornersAt foldThrees sub mul div ofBits massOf addMasses addAll massesOf addVertex addTriangle
 held = (record { within = lit≤ tt }, record { within = lit≤ tt })
 
--- the translation is 2.32 / 2 ^ 53 off, the rotations 2.49, where d + 1 is 2
+-- the translation is 2.32 / 2 ^ 53 off, the rotations 2.50, where d + 1 is 2
 pub sharp : (OffBy 0 1 → ⊥) × (OffBy 1 1 → ⊥)
 unfolding value sumOf twiceArea weight exactShare givenTo namedBy cornersAt foldThrees sub mul div ofBits massOf addMasses addAll massesOf addVertex addTriangle
 sharp = (λ h. le→leb _ _ (h .within), λ h. le→leb _ _ (h .within))
