@@ -4,7 +4,7 @@ use mathlib.Core.Path.{_≡_}
 use mathlib.Core.Bool.{true}
 use mathlib.Core.List.{List}
 use mathlib.Core.Logic.{_↔_}
-use Prim.Native.Nat.{ℕ, _^_, _<_, _≤_}
+use Prim.Native.Nat.{ℕ, _<_, _≤_}
 use lib.Ieee.{Float, nan, binary64, ofBits}
 use lib.ListN.{length, replicate}
 use Rattle.float.specs.Lists.{cleared}
@@ -36,7 +36,7 @@ use Rattle.skin.specs.declared.Skin.{Skin}
 use Rattle.mesh.specs.Mesh.{meshOf, numberOf}
 use Rattle.mesh.specs.Writer.{fitIn, Content, Valid, Written, encode}
 use Rattle.mesh.specs.declared.Mesh.the-variants.{Read}
-use Rattle.mass_bounds.specs.Range.{inRange}
+use Rattle.mass_bounds.specs.Range.{largestCoordinate, largestFactor, inRange}
 use Rattle.mass_bounds.specs.Bounds as bounds
 use Rattle.examples.specs.Table.{Hold, table}
 open Ops (ops binary64) using (zero)
@@ -148,7 +148,7 @@ pub record Demand2 : Type 0 where
 -- ---- demand 3: masses near the exact ones (01-scope 6)
 pub record Demand3 : Type 0 where
   pub masses : (tri2vtx : List ℕ) (vtx2xy : List Float) (thick rho : Float) (before : List Float) {r : ℕ} {after : List Float}
-      → IsMasses binary64 tri2vtx vtx2xy thick rho before r after → inRange binary64 1048576 (2 ^ 40) tri2vtx vtx2xy thick rho ≡ true
+      → IsMasses binary64 tri2vtx vtx2xy thick rho before r after → inRange binary64 largestCoordinate largestFactor tri2vtx vtx2xy thick rho ≡ true
       → bounds.Demand3 binary64 tri2vtx vtx2xy thick rho before r after
 
 pub record Demands : Type 0 where

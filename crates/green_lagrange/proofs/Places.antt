@@ -3,10 +3,10 @@ use mathlib.Core.Path.{_≡_, refl}
 use mathlib.Core.Bool.{true}
 use Prim.Native.Nat.{ℕ, zero, suc, _+_, _*_, _<_}
 use native.Mathlib.Omega.{arith}
-use lib.Ieee.{Float}
 use lib.Ieee.Scale.{finite}
 use Rattle.float.specs.Lists.{_!_, every, allFinite}
 use Rattle.del_geo_core.specs.declared.tri3.Tri3.{Tri3}
+use Rattle.places.specs.Places.{component as coordinate}
 use Rattle.vec3.specs.declared.V3.{V3}
 use Rattle.strain.specs.Strain.{flat, dwOf}
 
@@ -14,11 +14,6 @@ abbrev pub corner : (c : ℕ) → Tri3 → V3
 corner zero t = t .p0
 corner (suc zero) t = t .p1
 corner (suc (suc c)) t = t .p2
-
-abbrev pub coordinate : (i : ℕ) → V3 → Float
-coordinate zero p = p .x
-coordinate (suc zero) p = p .y
-coordinate (suc (suc i)) p = p .z
 
 pub all-finite : (t : Tri3) → ((c i : ℕ) → finite (coordinate i (corner c t)) ≡ true) → allFinite (flat t) ≡ true
 unfolding every

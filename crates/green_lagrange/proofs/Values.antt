@@ -14,6 +14,7 @@ use Rattle.rounding.specs.Whole.{unit}
 use Rattle.rounding.proofs.Nearest.{top-digit}
 use Rattle.rounding.proofs.Dyadic.{whole-room, dyad-as, dyad-neg, dyad-add, dyad-sub, dyad-mul}
 use Rattle.rounding.proofs.Whole.{half-dyad}
+use Rattle.places.specs.Places.{component as coordinate}
 use Rattle.vec3.specs.Vec3.{dotOf}
 use Rattle.del_geo_core.specs.declared.tri2.Tri2.{Tri2}
 use Rattle.del_geo_core.specs.declared.tri3.Tri3.{Tri3}
@@ -25,7 +26,7 @@ use Rattle.green_lagrange.proofs.Corners.{edge, corners}
 use Rattle.green_lagrange.proofs.Factors.{gugu0, xx-factors, yy-factors, xy-factors}
 use Rattle.green_lagrange.proofs.Fraction.{Quotient, quotient}
 use Rattle.green_lagrange.proofs.Gradient.{slopeX, slopeY}
-use Rattle.green_lagrange.proofs.Places.{corner, coordinate}
+use Rattle.green_lagrange.proofs.Places.{corner}
 use Rattle.green_lagrange.proofs.Powers.{tiny, nothing}
 use Rattle.green_lagrange.proofs.Rest.{Small, room, edge-x, edge-y}
 use Rattle.green_lagrange.proofs.Vector.{Nums, one, none, eX, eY, eZ, component, dot, Dyads, sub-exact, dot-exact}

@@ -2,7 +2,7 @@
 use mathlib.Core.Path.{_≡_, refl}
 use mathlib.Core.Bool.{true, false}
 use mathlib.Core.List.{List}
-use Prim.Native.Nat.{ℕ, _+_, _*_, _/_, _%_, _^_, _≤_, _<_}
+use Prim.Native.Nat.{ℕ, _+_, _*_, _/_, _%_, _≤_, _<_}
 use native.Mathlib.Omega.{arith}
 use lib.Dec.{lit≤, lit<}
 use lib.ListN.{length, getD}
@@ -25,7 +25,7 @@ use Rattle.masses.specs.Vertex.{trianglesOf, shareOf}
 use Rattle.masses.proofs.Vertex.{masses-sized, masses-hold}
 use Rattle.mitc_tri3.specs.Masses.{badInputOf, bufferOf, IsMasses}
 use Rattle.mitc_tri3.proofs.MassesAnswer.{numbers-exactly, accepted-masses}
-use Rattle.mass_bounds.specs.Range.{wholeAt, inRange}
+use Rattle.mass_bounds.specs.Range.{largestCoordinate, largestFactor, wholeAt, inRange}
 use Rattle.mass_bounds.specs.Bounds.{NearExact, Demand3}
 use Rattle.mass_bounds.specs.Example.{names, firstNames, untouched, sharpPoints, sharpRho, sharpThick, sharpBefore}
 use Rattle.mass_bounds.proofs.RuledOut.{meets, right-lengths, right-names}
@@ -98,11 +98,11 @@ module _ (f : Format) {B R N : ℕ} (m : Margins f B R N) (tri2vtx : List ℕ) (
     }
 
 -- ---- binary64
-margins : Margins binary64 1048576 (2 ^ 40) (maxTriangles * 3)
+margins : Margins binary64 largestCoordinate largestFactor (maxTriangles * 3)
 margins = record { wide = lit< tt; few = lit≤ tt; high = lit≤ tt }
 
 pub demand-3 : (tri2vtx : List ℕ) (vtx2xy : List Float) (thick rho : Float) (before : List Float) {r : ℕ} {after : List Float} → IsMasses binary64 tri2vtx vtx2xy thick rho before r after
-    → inRange binary64 1048576 (2 ^ 40) tri2vtx vtx2xy thick rho ≡ true → Demand3 binary64 tri2vtx vtx2xy thick rho before r after
+    → inRange binary64 largestCoordinate largestFactor tri2vtx vtx2xy thick rho ≡ true → Demand3 binary64 tri2vtx vtx2xy thick rho before r after
 demand-3 tri2vtx vtx2xy thick rho before is range = demand binary64 margins tri2vtx vtx2xy thick rho before range is (λ lengths. sized _ _ _ lengths .2)
 
 pub met : NearExact binary64 names points thick rho (bufferOf binary64 names points thick rho untouched)

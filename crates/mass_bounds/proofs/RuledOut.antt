@@ -16,12 +16,12 @@ use Rattle.rounding.specs.Sums.{sumOf}
 use Rattle.rounding.specs.Whole.{isWholeUpTo}
 use Rattle.rounding.proofs.Error.{within-apart}
 use Rattle.mitc_tri3.specs.Example.{points, thick, rho}
-use Rattle.mass_bounds.specs.Range.{between, inRange}
+use Rattle.mass_bounds.specs.Range.{largestCoordinate, largestFactor, between, inRange}
 use Rattle.mass_bounds.specs.Shares.{namesOf, twiceArea, weight, exactShare, exactMass, sizes}
 use Rattle.mass_bounds.specs.Bounds.{roundings, NearExact}
 use Rattle.mass_bounds.specs.Example.{names, firstNames, untouched, allZero, firstOnly}
 
-pub meets : inRange binary64 1048576 (2 ^ 40) names points thick rho ≡ true
+pub meets : inRange binary64 largestCoordinate largestFactor names points thick rho ≡ true
 unfolding inRange between isWholeUpTo every fits mag sign
 meets = refl
 

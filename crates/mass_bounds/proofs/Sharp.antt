@@ -16,7 +16,7 @@ use Rattle.rounding.specs.Error.{Within}
 use Rattle.rounding.specs.Sums.{sumOf}
 use Rattle.rounding.specs.Whole.{isWholeUpTo}
 use Rattle.masses.specs.Masses.{massOf, addMasses, addAll, massesOf}
-use Rattle.mass_bounds.specs.Range.{between, inRange}
+use Rattle.mass_bounds.specs.Range.{largestCoordinate, largestFactor, between, inRange}
 use Rattle.mass_bounds.specs.Shares.{namesOf, twiceArea, weight, exactShare, over, exactMass, sizes}
 use Rattle.mass_bounds.specs.Bounds.{roundings}
 use Rattle.mass_bounds.specs.Example.{firstNames, sharpPoints, sharpRho, sharpThick, sharpBefore}
@@ -29,7 +29,7 @@ abbrev OffBy : (k c : ℕ) → Type 0
 OffBy k c = Within (2 ^ 53) (namesOf firstNames sharpPoints 0 + c) (over binary64 k) (value binary64 (stored ! k)) (exactMass binary64 firstNames sharpPoints sharpThick sharpRho k 0)
     (sizes binary64 firstNames sharpPoints sharpThick sharpRho k 0)
 
-pub meets : inRange binary64 1048576 (2 ^ 40) firstNames sharpPoints sharpThick sharpRho ≡ true
+pub meets : inRange binary64 largestCoordinate largestFactor firstNames sharpPoints sharpThick sharpRho ≡ true
 unfolding inRange between isWholeUpTo every fits mag sign ofBits
 meets = refl
 

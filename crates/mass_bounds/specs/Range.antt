@@ -1,13 +1,21 @@
 -- The panels that 01-scope 6.2 speaks of, by plain tests of their numbers. A float's exact value is counted in units of 2 ^ -low (`mag`, `sign`).
 use mathlib.Core.Bool.{Bool, not, _&&_}
 use mathlib.Core.List.{List}
-use Prim.Native.Nat.{ℕ, _*_}
+use Prim.Native.Nat.{ℕ, _*_, _^_}
 use lib.Dec.{leb}
 use lib.Ieee.{Float, Format}
 use Rattle.float.specs.Lists.{every}
 use Rattle.rounding.specs.Exact.{mag, sign}
 use Rattle.rounding.specs.Whole.{unit, isNumber, isWholeUpTo}
 use Rattle.places.specs.Plane.{pointAt}
+
+-- either side of zero
+abbrev pub largestCoordinate : ℕ
+largestCoordinate = 1048576
+
+-- density and thickness lie from 1 over it to it
+abbrev pub largestFactor : ℕ
+largestFactor = 2 ^ 40
 
 module _ (f : Format) where
   -- from 1 / R to R
