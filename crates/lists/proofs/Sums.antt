@@ -1,29 +1,21 @@
 -- A finite sum has finite terms alone: an infinity or a NaN plus anything is no finite number. So the numbers that went into finite sums need no other look.
 use mathlib.Core.Path.{_≡_, refl, sym, _∙_}
-use mathlib.Core.Bool.{Bool, true, false, cond, false≢true}
+use mathlib.Core.Bool.{true}
 use mathlib.Core.List.{List}
 use Prim.Native.Nat.{ℕ, _+_, _-_, _<_}
 use native.Mathlib.Omega.{arith}
-use lib.Ieee.{Float, nan, inf, fin, Format, add}
+use denote.Floats.{passes}
+use lib.Ieee.{Float, nan, Format, add}
+use lib.Ieee.Bits.{is-true}
 use lib.Ieee.Scale.{finite}
 use lib.ListN.{length, take, drop, length-drop}
 use lib.Seq.{take-length}
 use Rattle.float.specs.Lists.{_!_, allFinite}
+use Rattle.float.proofs.Finite.{add-finite}
 use Rattle.float.proofs.Scan.{every-step}
 
-no-finite : (b s : Bool) → finite (cond b (inf s) nan) ≡ false
-no-finite true s = refl
-no-finite false s = refl
-
-pub finite-add : (f : Format) (x y : Float) → finite (add f x y) ≡ true → (finite x ≡ true) × (finite y ≡ true)
-unfolding add
-finite-add f nan y h = absurd (false≢true h)
-finite-add f (inf s) nan h = absurd (false≢true h)
-finite-add f (inf s) (inf t) h = absurd (false≢true (rw no-finite at h))
-finite-add f (inf s) (fin t n d) h = absurd (false≢true h)
-finite-add f (fin s m e) nan h = absurd (false≢true h)
-finite-add f (fin s m e) (inf t) h = absurd (false≢true h)
-finite-add f (fin s m e) (fin t n d) h = (refl, refl)
+finite-add : (f : Format) (x y : Float) → finite (add f x y) ≡ true → (finite x ≡ true) × (finite y ≡ true)
+finite-add f x y h = let t = add-finite f x y (passes _ h) in (is-true _ (t .0), is-true _ (t .1))
 
 -- a loop that sums a list from the front keeps this: where its four sums are finite, what is left from here is finite exactly when the whole list is
 module _ (f : Format) (xs : List Float) where

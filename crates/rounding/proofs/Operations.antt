@@ -1,6 +1,6 @@
--- The four operations: a finite result has finite operands, and a result is the float nearest to the exact one, by the definition of each.
+-- The four operations: a result is the float nearest to the exact one, by the definition of each.
 use mathlib.Core.Path.{_≡_, refl, ap}
-use mathlib.Core.Bool.{Bool, true, false, not, Bool·beq, cond}
+use mathlib.Core.Bool.{Bool, true, false, not, cond}
 use Prim.Native.Nat.{ℕ, zero, suc, _+_, _-_, _*_, _^_, _≤_, _<_}
 use native.Mathlib.Nat.{mul-le-mul-right, le-of-mul-le-mul-right, mul-pos, mul-sub, le-of-lt, zero-lt-suc}
 use native.Mathlib.Omega.{arith}
@@ -12,20 +12,11 @@ use lib.Ieee.Exact.{HasValue}
 use lib.Ieee.Positive.{first-pos}
 use lib.Ieee.Scale.{finite, round-same}
 use Rattle.float.specs.Ops.{Ops, ops}
+use Rattle.float.proofs.Finite.{never-finite}
 use Rattle.rounding.specs.Exact.{Num, Equal, _⊞_, _⊟_, _⊠_, signed, mag, sign, value, Number}
 use Rattle.rounding.specs.Error.{NearestTo}
 use Rattle.rounding.proofs.Num.{product-signed}
 use Rattle.rounding.proofs.Value.{known, opposite-value, opposite-number}
-
-opposite-finite : (x : Float) → T (finite (neg x)) → T (finite x)
-unfolding neg
-opposite-finite nan t = t
-opposite-finite (inf s) t = t
-opposite-finite (fin s m e) t = t
-
-never-finite : (b s : Bool) → T (finite (cond b nan (inf s))) → ⊥
-never-finite true s t = t
-never-finite false s t = t
 
 -- x = a / l over e, brought to the denominator e * d
 widen : (x a e l d : ℕ) → x * l ≡ a * e → x * d * l ≡ a * (e * d)
@@ -82,35 +73,6 @@ module _ (f : Format) where
 
   L+ : 0 < L
   L+ = pow-pos (low f)
-
-  -- ---- THE laws of finite results
-  pub add-finite : (x y : Float) → T (finite (x ⊕ y)) → T (finite x) × T (finite y)
-  unfolding add
-  add-finite nan y t = absurd t
-  add-finite (inf s) nan t = absurd t
-  add-finite (inf s) (inf u) t = absurd (never (Bool·beq s u) t)
-    where
-      never : (b : Bool) → T (finite (cond b (inf s) nan)) → ⊥
-      never true t = t
-      never false t = t
-  add-finite (inf s) (fin u n d) t = absurd t
-  add-finite (fin s m e) nan t = absurd t
-  add-finite (fin s m e) (inf u) t = absurd t
-  add-finite (fin s m e) (fin u n d) t = (tt, tt)
-
-  pub sub-finite : (x y : Float) → T (finite (x ⊖ y)) → T (finite x) × T (finite y)
-  unfolding sub
-  sub-finite x y t = let h = add-finite x (neg y) t in (h .0, opposite-finite y (h .1))
-
-  pub mul-finite : (x y : Float) → T (finite (x ⊗ y)) → T (finite x) × T (finite y)
-  unfolding mul
-  mul-finite nan y t = absurd t
-  mul-finite (inf s) nan t = absurd t
-  mul-finite (inf s) (inf u) t = absurd t
-  mul-finite (inf s) (fin u n d) t = absurd (never-finite (eqb n 0) (unlike s u) t)
-  mul-finite (fin s m e) nan t = absurd t
-  mul-finite (fin s m e) (inf u) t = absurd (never-finite (eqb m 0) (unlike s u) t)
-  mul-finite (fin s m e) (fin u n d) t = (tt, tt)
 
   -- a number over an infinity is zero: here the divisor has to be known finite, and isn't zero then
   pub div-finite : (x y : Float) → Number f y → T (finite (x ⊘ y)) → T (finite x) × (0 < mag f y)

@@ -14,13 +14,14 @@ use lib.Ieee.Fits.{reach}
 use lib.Ieee.Exact.{HasValue}
 use lib.Ieee.Scale.{grid, finite, normal-of-fraction}
 use Rattle.float.specs.Ops.{Ops, ops}
+use Rattle.float.proofs.Finite.{add-finite, sub-finite, mul-finite}
 use Rattle.rounding.specs.Exact.{Num, Equal, _⊞_, _⊟_, _⊠_, scale, sizeOf, signed, mag, sign, value, Number}
 use Rattle.rounding.specs.Error.{Within, NearestTo, Rounded, Normal}
 use Rattle.rounding.specs.Dyadic.{Held}
 use Rattle.rounding.proofs.Num.{size-signed, size-equal, size-times}
 use Rattle.rounding.proofs.Nearest.{Off, grid-near}
 use Rattle.rounding.proofs.Value.{known, size-value, value-is, value-finite, round-value, round-held}
-use Rattle.rounding.proofs.Operations.{add-finite, sub-finite, mul-finite, div-finite, add-nearest, sub-nearest, mul-nearest, div-nearest}
+use Rattle.rounding.proofs.Operations.{div-finite, add-nearest, sub-nearest, mul-nearest, div-nearest}
 
 -- any count below 2 ^ prec is held
 held-few : (f : Format) (w : ℕ) → w < 2 ^ prec f → Held f w

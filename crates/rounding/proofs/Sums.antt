@@ -14,12 +14,12 @@ use lib.Ieee.Scale.{finite}
 use Rattle.float.specs.Ops.{Ops, ops, literal}
 use Rattle.float.specs.Lists.{fold, total}
 use Rattle.float.proofs.Bits.{zero-bits}
+use Rattle.float.proofs.Finite.{add-finite}
 use Rattle.rounding.specs.Exact.{Num, _⊞_, signed, mag, sign, value, Number}
 use Rattle.rounding.specs.Error.{Within, Near}
 use Rattle.rounding.specs.Sums.{All, sumOf, exactSum, halve, halves}
 use Rattle.rounding.proofs.Num.{size-times}
 use Rattle.rounding.proofs.Value.{size-value}
-use Rattle.rounding.proofs.Operations.{add-finite}
 use Rattle.rounding.proofs.Rounding.{zero-add}
 use Rattle.rounding.proofs.ExactSums.{sum-append}
 use Rattle.rounding.proofs.Chain.{near-exact, near-same, near-more, near-within, add-near}
