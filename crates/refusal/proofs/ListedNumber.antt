@@ -13,7 +13,7 @@ use Rattle.refusal.proofs.Ladder.{Refusing, given-exactly, clear-exactl
 use Rattle.refusal.proofs.Listed.{first-exactly, none-exactly, none-place}
 
 -- n refuses, or not
-refuses : (n : ℕ) → (n ≡ accepted) ⊎ (n ≡ accepted → ⊥)
+pub refuses : (n : ℕ) → (n ≡ accepted) ⊎ (n ≡ accepted → ⊥)
 refuses zero = inl refl
 refuses (suc n) = inr (λ (e : suc n ≡ accepted). omega arith)
 
@@ -24,11 +24,11 @@ module _ (early : List Row) (numbers : List ℕ) (late : List Row) where
   abbrev place : ℕ
   place = listedPlace early numbers late
 
-  by-early : (firstOf early ≡ accepted → ⊥) → (number ≡ firstOf early) × (place ≡ 0)
+  pub by-early : (firstOf early ≡ accepted → ⊥) → (number ≡ firstOf early) × (place ≡ 0)
   unfolding listedNumber listedPlace firstRefusal
   by-early z = rw (ne-eqb _ accepted z) (refl, refl)
 
-  by-answer : firstOf early ≡ accepted → (firstRefusal numbers ≡ accepted → ⊥) → (number ≡ firstRefusal numbers) × (place ≡ firstPlace numbers)
+  pub by-answer : firstOf early ≡ accepted → (firstRefusal numbers ≡ accepted → ⊥) → (number ≡ firstRefusal numbers) × (place ≡ firstPlace numbers)
   unfolding listedNumber listedPlace firstRefusal
   by-answer e z = let ne = ne-eqb _ accepted z in rw (e, ne) (refl, rw ne)
 
