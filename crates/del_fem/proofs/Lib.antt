@@ -1,3 +1,4 @@
 mod MeshFile
 pub mod Unique
+pub mod Refused
 pub mod MeshBlocks

@@ -6,6 +6,7 @@ use Prim.Native.Nat.{ℕ}
 use lib.Ieee.{Float, Format}
 use Rattle.float.proofs.Unique.{only}
 use Rattle.values.proofs.Unique.{same}
+use Rattle.material.specs.declared.Material.{Material}
 use Rattle.skin.specs.declared.Skin.{Skin}
 use Rattle.skin.proofs.SkinAnswer.{unique}
 use Rattle.mesh.specs.declared.Mesh.{Mesh}
@@ -26,17 +27,17 @@ module _ {r q : ℕ} {v w : List Float} where
     pub green-lagrange : (pIni pDef : List (List Float)) → IsGreenLagrangeExport f pIni pDef r v → IsGreenLagrangeExport f pIni pDef q w → (r ≡ q) × (v ≡ w)
     green-lagrange pIni pDef = same
 
-    pub stvk : (p0 p1 : List (List Float)) (lambda myu : Float) → IsStvkExport f p0 p1 lambda myu r v → IsStvkExport f p0 p1 lambda myu q w → (r ≡ q) × (v ≡ w)
-    stvk p0 p1 lambda myu = same
+    pub stvk : (p0 p1 : List (List Float)) (m : Material) → IsStvkExport f p0 p1 m r v → IsStvkExport f p0 p1 m q w → (r ≡ q) × (v ≡ w)
+    stvk p0 p1 m = same
 
-    pub plate : (p u : List (List Float)) (thk lambda myu : Float) → IsPlateExport f p u thk lambda myu r v → IsPlateExport f p u thk lambda myu q w → (r ≡ q) × (v ≡ w)
-    plate p u thk lambda myu = same
+    pub plate : (p u : List (List Float)) (m : Material) → IsPlateExport f p u m r v → IsPlateExport f p u m q w → (r ≡ q) × (v ≡ w)
+    plate p u m = same
 
-    pub skin : (vtx2ini vtx2def : List Float) (tri2vtx : List ℕ) (lambda myu : Float) (before : List Float) {place spot : ℕ} {x y : Float}
-        → IsSkinExport f vtx2ini vtx2def tri2vtx lambda myu before r place x v → IsSkinExport f vtx2ini vtx2def tri2vtx lambda myu before q spot y w
+    pub skin : (vtx2ini vtx2def : List Float) (tri2vtx : List ℕ) (m : Material) (before : List Float) {place spot : ℕ} {x y : Float}
+        → IsSkinExport f vtx2ini vtx2def tri2vtx m before r place x v → IsSkinExport f vtx2ini vtx2def tri2vtx m before q spot y w
         → (r ≡ q) × (place ≡ spot) × (x ≡ y) × (v ≡ w)
-    skin vtx2ini vtx2def tri2vtx lambda myu before a b =
-        let one = unique f vtx2ini vtx2def tri2vtx lambda myu before a b in
+    skin vtx2ini vtx2def tri2vtx m before a b =
+        let one = unique f vtx2ini vtx2def tri2vtx m before a b in
         (ap (λ (s : Skin). s .number) (one .0), ap (λ (s : Skin). s .place) (one .0), ap (λ (s : Skin). s .w) (one .0), one .1)
 
 entries : {a b c x y z : ℕ} → a ∷ b ∷ c ∷ [] ≡ x ∷ y ∷ z ∷ [] → (a ≡ x) × (b ≡ y) × (c ≡ z)

@@ -1,5 +1,5 @@
 -- What an exported kernel gives: its answer's number is returned, and the lent array holds the answer's values one after the other, whatever was in it.
--- The answer is the one that the kernel's own statement names, with +0 throughout after a refusal (01-scope 2.1).
+-- The answer is the one that the kernel's own statement names, with +0 throughout after a refusal (01-scope 2.1). A material crosses as a word and four numbers (5.11; `materialOf`).
 use mathlib.Core.Path.{_≡_}
 use mathlib.Core.Bool.{cond}
 use mathlib.Core.List.{List, [], _∷_, _++_}
@@ -7,6 +7,7 @@ use Prim.Native.Nat.{ℕ, _*_}
 use lib.Dec.{eqb}
 use lib.Ieee.{Float, Format}
 use Rattle.refusal.specs.Refusal.{accepted}
+use Rattle.material.specs.declared.Material.{Material}
 use Rattle.corners.specs.Plane as plane
 use Rattle.corners.specs.Space as space
 use Rattle.quadratic_bending.specs.Bending as bending
@@ -22,7 +23,7 @@ use Rattle.mesh.specs.declared.Mesh.the-variants.{Read, Refused}
 
 -- THE statement of `del_fem_version`: 1000 times the major number and the minor one
 abbrev pub version : ℕ
-version = 1000
+version = 2000
 
 module _ (f : Format) where
   -- THE statement of `del_fem_quadratic_bending_wdw` (01-scope 5.6)
@@ -38,16 +39,16 @@ module _ (f : Format) where
   IsGreenLagrangeExport pIni pDef = GivesStrain (greenLagrangeOf f (plane.cornersOf pIni) (space.cornersOf pDef))
 
   -- THE statement of `del_fem_stvk_tri3_wdwddw_` (01-scope 5.5)
-  abbrev pub IsStvkExport : (p0 p1 : List (List Float)) (lambda myu : Float) (r : ℕ) (values : List Float) → Type 0
-  IsStvkExport p0 p1 lambda myu = GivesEnergy (stvkOf f (space.cornersOf p0) (space.cornersOf p1) lambda myu)
+  abbrev pub IsStvkExport : (p0 p1 : List (List Float)) (material : Material) (r : ℕ) (values : List Float) → Type 0
+  IsStvkExport p0 p1 material = GivesEnergy (stvkOf f (space.cornersOf p0) (space.cornersOf p1) (material .stiffness))
 
   -- THE statement of `del_fem_mitc_tri3_w_dw_ddw_plate_bending` (01-scope 5.2)
-  abbrev pub IsPlateExport : (p u : List (List Float)) (thk lambda myu : Float) (r : ℕ) (values : List Float) → Type 0
-  IsPlateExport p u thk lambda myu = GivesEnergy (plateOf f (plane.cornersOf p) (space.cornersOf u) thk lambda myu)
+  abbrev pub IsPlateExport : (p u : List (List Float)) (material : Material) (r : ℕ) (values : List Float) → Type 0
+  IsPlateExport p u material = GivesEnergy (plateOf f (plane.cornersOf p) (space.cornersOf u) (material .thickness) (material .stiffness))
 
   -- THE statement of `del_fem_skin_wdw` (01-scope 5.8, 2.5): the number, the place and the energy are those of skin's own answer
-  abbrev pub IsSkinExport : (vtx2ini vtx2def : List Float) (tri2vtx : List ℕ) (lambda myu : Float) (before : List Float) (r place : ℕ) (w : Float) (after : List Float) → Type 0
-  IsSkinExport vtx2ini vtx2def tri2vtx lambda myu before r place w = IsSkin f vtx2ini vtx2def tri2vtx lambda myu before (record { number = r; place = place; w = w })
+  abbrev pub IsSkinExport : (vtx2ini vtx2def : List Float) (tri2vtx : List ℕ) (material : Material) (before : List Float) (r place : ℕ) (w : Float) (after : List Float) → Type 0
+  IsSkinExport vtx2ini vtx2def tri2vtx material before r place w = IsSkin f vtx2ini vtx2def tri2vtx material before (record { number = r; place = place; w = w })
 
 -- n, m and place, from the number and the values that mesh's own definitions give an answer: the counts and 0, or no counts and the place
 abbrev pub lentOf : (number : ℕ) (values : List ℕ) → List ℕ

@@ -1,12 +1,15 @@
-// What C and Rust link: each routine under one name that begins with del_fem_, corners by reference, values into a lent array, the refusal number returned (include/del_fem.h).
+// What C and Rust link: each routine under one name that begins with del_fem_, corners by reference, a material as a word and four numbers, values into a lent array, the refusal number
+// returned (include/del_fem.h).
 ghost use mathlib.Core.Path.{_≡_};
 ghost use lib.Ieee.{binary64};
 ghost use Rattle.root.specs.Root.{SquareRoot, SquareRootWord};
+ghost use Rattle.material.specs.Material.{materialOf};
 ghost use Rattle.mitc_tri3.specs.Masses.{IsMasses};
 ghost use Rattle.mesh.specs.Blocks.{IsCoordinate, IsName};
 ghost use Rattle.words.specs.Words.{IsMeaning};
 ghost use Rattle.del_fem.specs.Exports.{IsBendingExport, IsStrainExport, IsGreenLagrangeExport, IsStvkExport, IsPlateExport};
 ghost use Rattle.del_fem.specs.Exports.{IsSkinExport, IsMeshExport, IsPointsExport, IsCellsExport, version};
+use material::Material;
 use mesh::Mesh;
 
 // Which header these functions fit.
@@ -14,7 +17,7 @@ use mesh::Mesh;
 pub extern "C" fn del_fem_version() -> u32
     ensures { λ r. ⌜ r ≡ version ⌝ }
 {
-    1000
+    2000
 }
 
 // What a number means in words, as a text of C: the words, then zeros; answers how many bytes the words have.
@@ -82,13 +85,17 @@ pub extern "C" fn del_fem_stvk_tri3_wdw_green_lagrange(
 pub extern "C" fn del_fem_stvk_tri3_wdwddw_(
     p0: &[[f64; 3]; 3],
     p1: &[[f64; 3]; 3],
-    lambda: f64,
-    myu: f64,
+    stiffness: u32,
+    density: f64,
+    thickness: f64,
+    a: f64,
+    b: f64,
     values: &mut [f64; 91],
 ) -> u32
-    ensures { λ r. ⌜ IsStvkExport binary64 (now (p0 .entry)) (now (p1 .entry)) lambda myu r (now (values .exit)) ⌝ }
+    ensures { λ r. ⌜ IsStvkExport binary64 (now (p0 .entry)) (now (p1 .entry)) (materialOf binary64 stiffness density thickness a b) r (now (values .exit)) ⌝ }
 {
-    values::put_energy(stvk_tri3::wdwddw_(*p0, *p1, lambda, myu), values)
+    let material = Material::of_words(stiffness, density, thickness, a, b);
+    values::put_energy(stvk_tri3::wdwddw_(*p0, *p1, material), values)
 }
 
 // The plate's energy, its gradient of 9, its Hessian of 81.
@@ -96,17 +103,17 @@ pub extern "C" fn del_fem_stvk_tri3_wdwddw_(
 pub extern "C" fn del_fem_mitc_tri3_w_dw_ddw_plate_bending(
     p: &[[f64; 2]; 3],
     u: &[[f64; 3]; 3],
-    thk: f64,
-    lambda: f64,
-    myu: f64,
+    stiffness: u32,
+    density: f64,
+    thickness: f64,
+    a: f64,
+    b: f64,
     values: &mut [f64; 91],
 ) -> u32
-    ensures { λ r. ⌜ IsPlateExport binary64 (now (p .entry)) (now (u .entry)) thk lambda myu r (now (values .exit)) ⌝ }
+    ensures { λ r. ⌜ IsPlateExport binary64 (now (p .entry)) (now (u .entry)) (materialOf binary64 stiffness density thickness a b) r (now (values .exit)) ⌝ }
 {
-    values::put_energy(
-        mitc_tri3::w_dw_ddw_plate_bending(*p, *u, thk, lambda, myu),
-        values,
-    )
+    let material = Material::of_words(stiffness, density, thickness, a, b);
+    values::put_energy(mitc_tri3::w_dw_ddw_plate_bending(*p, *u, material), values)
 }
 
 // The lumped masses, three for each vertex.
@@ -114,13 +121,18 @@ pub extern "C" fn del_fem_mitc_tri3_w_dw_ddw_plate_bending(
 pub extern "C" fn del_fem_mitc_tri3_mass_lumped_plate_bending(
     tri2vtx: &[usize],
     vtx2xy: &[f64],
-    thick: f64,
-    rho: f64,
+    stiffness: u32,
+    density: f64,
+    thickness: f64,
+    a: f64,
+    b: f64,
     vtx2mass: &mut [f64],
 ) -> u32
-    ensures { λ r. ⌜ IsMasses binary64 (now («tri2vtx» .entry)) (now («vtx2xy» .entry)) thick rho (now («vtx2mass» .entry)) r (now («vtx2mass» .exit)) ⌝ }
+    ensures { λ r. ⌜ IsMasses binary64 (now («tri2vtx» .entry)) (now («vtx2xy» .entry)) (materialOf binary64 stiffness density thickness a b)
+        (now («vtx2mass» .entry)) r (now («vtx2mass» .exit)) ⌝ }
 {
-    mitc_tri3::mass_lumped_plate_bending(tri2vtx, vtx2xy, thick, rho, vtx2mass)
+    let material = Material::of_words(stiffness, density, thickness, a, b);
+    mitc_tri3::mass_lumped_plate_bending(tri2vtx, vtx2xy, material, vtx2mass)
 }
 
 // The energy of a whole skin and the place of a refusal, each behind a reference, and the gradient, three numbers for each point.
@@ -129,16 +141,20 @@ pub extern "C" fn del_fem_skin_wdw(
     vtx2ini: &[f64],
     vtx2def: &[f64],
     tri2vtx: &[usize],
-    lambda: f64,
-    myu: f64,
+    stiffness: u32,
+    density: f64,
+    thickness: f64,
+    a: f64,
+    b: f64,
     vtx2dw: &mut [f64],
     place: &mut usize,
     w: &mut f64,
 ) -> u32
-    ensures { λ r. ⌜ IsSkinExport binary64 (now («vtx2ini» .entry)) (now («vtx2def» .entry)) (now («tri2vtx» .entry)) lambda myu (now («vtx2dw» .entry))
-        r (now (place .exit)) (now (w .exit)) (now («vtx2dw» .exit)) ⌝ }
+    ensures { λ r. ⌜ IsSkinExport binary64 (now («vtx2ini» .entry)) (now («vtx2def» .entry)) (now («tri2vtx» .entry)) (materialOf binary64 stiffness density thickness a b)
+        (now («vtx2dw» .entry)) r (now (place .exit)) (now (w .exit)) (now («vtx2dw» .exit)) ⌝ }
 {
-    let skin = skin::wdw(vtx2ini, vtx2def, tri2vtx, lambda, myu, vtx2dw);
+    let material = Material::of_words(stiffness, density, thickness, a, b);
+    let skin = skin::wdw(vtx2ini, vtx2def, tri2vtx, material, vtx2dw);
     *place = skin.place;
     *w = skin.w;
     skin.number

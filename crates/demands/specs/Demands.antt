@@ -9,10 +9,13 @@ use lib.Ieee.{Float, nan, binary64, ofBits}
 use lib.ListN.{length, replicate}
 use Rattle.float.specs.Lists.{cleared}
 use Rattle.float.specs.Ops.{Ops, ops}
-use Rattle.refusal.specs.Refusal.{accepted, badName, badAnswer, badFile, kernelRows, Exactly}
+use Rattle.refusal.specs.Refusal.{accepted, badName, badAnswer, badStiffness, badFile, kernelRows, Exactly}
 use Rattle.refusal.specs.Listed.{ListedExactly}
 use Rattle.refusal.specs.declared.Energy.{Energy}
 use Rattle.refusal.specs.declared.Tests.{Tests}
+use Rattle.material.specs.Material.{isFiniteOf, lameOf, lameMaterial, youngMaterial}
+use Rattle.material.specs.declared.Material.{Material}
+use Rattle.material.specs.declared.Stiffness.the-variants.{Lame, Young}
 use Rattle.root.specs.Root.{IsRoot, SquareRoot, SquareRootWord}
 use Rattle.corners.specs.Plane as plane
 use Rattle.corners.specs.Space as space
@@ -98,21 +101,22 @@ pub record Demand1 : Type 0 where
       StrainRefuses (strains.IsStrain binary64 pIni pDef) (strains.testsOf binary64 ini (space.cornersOf pDef) (restOf binary64 ini))
   pub green-lagrange : (pIni pDef : List (List Float)) → let ini = plane.cornersOf pIni in
       StrainRefuses (IsGreenLagrange binary64 pIni pDef) (strains.testsOf binary64 ini (space.cornersOf pDef) (restOfGreenLagrange binary64 ini))
-  pub stvk : (p0 p1 : List (List Float)) (lambda myu : Float)
-      → EnergyRefuses (stvks.IsStvk binary64 p0 p1 lambda myu) (stvks.testsOf binary64 (space.cornersOf p0) (space.cornersOf p1) lambda myu)
-  pub plate : (p u : List (List Float)) (thk lambda myu : Float)
-      → EnergyRefuses (plates.IsPlate binary64 p u thk lambda myu) (plates.testsOf binary64 (plane.cornersOf p) (space.cornersOf u) thk lambda myu)
+  pub stvk : (p0 p1 : List (List Float)) (m : Material)
+      → EnergyRefuses (stvks.IsStvk binary64 p0 p1 m) (stvks.testsOf binary64 (space.cornersOf p0) (space.cornersOf p1) (m .stiffness))
+  pub plate : (p u : List (List Float)) (m : Material)
+      → EnergyRefuses (plates.IsPlate binary64 p u m) (plates.testsOf binary64 (plane.cornersOf p) (space.cornersOf u) (m .thickness) (m .stiffness))
   -- the buffer is +0 throughout after 5 and as it was after 1, 2 and 3
-  pub masses : (tri2vtx : List ℕ) (vtx2xy : List Float) (thick rho : Float) (before : List Float) {r : ℕ} {after : List Float}
-      → IsMasses binary64 tri2vtx vtx2xy thick rho before r after
-      → Exactly r (rowsOf binary64 tri2vtx vtx2xy thick rho before) × (r ≡ badAnswer → after ≡ cleared binary64 before)
+  pub masses : (tri2vtx : List ℕ) (vtx2xy : List Float) (m : Material) (before : List Float) {r : ℕ} {after : List Float}
+      → IsMasses binary64 tri2vtx vtx2xy m before r after
+      → Exactly r (rowsOf binary64 tri2vtx vtx2xy (m .thickness) (m .density) before) × (r ≡ badAnswer → after ≡ cleared binary64 before)
       × ((r ≡ accepted → ⊥) → (r ≡ badAnswer → ⊥) → after ≡ before)
-  -- with the place; the energy is +0 after a refusal, the buffer +0 throughout after 3, 4 and 5 and as it was after 1 and 2
-  pub skin : (vtx2ini vtx2def : List Float) (tri2vtx : List ℕ) (lambda myu : Float) (before : List Float) {r : Skin} {after : List Float}
-      → IsSkin binary64 vtx2ini vtx2def tri2vtx lambda myu before r after → let answer = answerOf binary64 vtx2ini vtx2def lambda myu in
+  -- with the place; the energy is +0 after a refusal, the buffer +0 throughout after 3, 7, 4 and 5 and as it was after 1 and 2; 7 is for the first triangle alone
+  pub skin : (vtx2ini vtx2def : List Float) (tri2vtx : List ℕ) (m : Material) (before : List Float) {r : Skin} {after : List Float}
+      → IsSkin binary64 vtx2ini vtx2def tri2vtx m before r after → let answer = answerOf binary64 vtx2ini vtx2def (m .stiffness) in
       ListedExactly (r .number) (r .place) (earlyOf (length vtx2ini) (length vtx2def) tri2vtx (length before)) (numbersOf answer tri2vtx)
       (lateOf (energyOf binary64 answer tri2vtx) (gradientOf binary64 answer tri2vtx (length before)))
       × ((r .number ≡ accepted → ⊥) → r .w ≡ zero) × (badName < r .number → after ≡ cleared binary64 before) × ((r .number ≡ accepted → ⊥) → r .number ≤ badName → after ≡ before)
+      × (r .number ≡ badStiffness → r .place ≡ 0)
   -- of bytes: 0 with these counts and places exactly where a valid content was written out so, and 8 exactly where none was
   pub mesh-accepts : (f : List ℕ) → fitIn 1 f ≡ true → (n m points cells types : ℕ) → meshOf f ≡ Read n m points cells types ↔ Written f n m points cells types
   pub mesh-refuses : (f : List ℕ) → fitIn 1 f ≡ true → numberOf (meshOf f) ≡ badFile ↔ ((c : Content) → Valid c → f ≡ encode c → ⊥)
@@ -129,29 +133,52 @@ pub record Demand2 : Type 0 where
       → StrainGives (strains.IsStrain binary64 pIni pDef) (valuesOf binary64 (restOf binary64 (plane.cornersOf pIni)) (space.cornersOf pDef))
   pub green-lagrange : (pIni pDef : List (List Float))
       → StrainGives (IsGreenLagrange binary64 pIni pDef) (valuesOf binary64 (restOfGreenLagrange binary64 (plane.cornersOf pIni)) (space.cornersOf pDef))
-  pub stvk : (p0 p1 : List (List Float)) (lambda myu : Float)
-      → EnergyGives (stvks.IsStvk binary64 p0 p1 lambda myu) (wdwddwOf binary64 (space.cornersOf p0) (space.cornersOf p1) lambda myu)
-  pub plate : (p u : List (List Float)) (thk lambda myu : Float)
-      → EnergyGives (plates.IsPlate binary64 p u thk lambda myu) (wDwDdwPlateBendingOf binary64 (plane.cornersOf p) (space.cornersOf u) thk lambda myu)
-  pub masses : (tri2vtx : List ℕ) (vtx2xy : List Float) (thick rho : Float) (before : List Float) {r : ℕ} {after : List Float}
-      → IsMasses binary64 tri2vtx vtx2xy thick rho before r after → r ≡ accepted → after ≡ massesOf binary64 tri2vtx vtx2xy thick rho before
-  pub one-panel : (tri2vtx : List ℕ) (vtx2xy : List Float) (thick rho : Float) (before : List Float) {r q : ℕ} {after left : List Float}
-      → IsMasses binary64 tri2vtx vtx2xy thick rho before r after → IsMasses binary64 tri2vtx vtx2xy thick rho before q left → (r ≡ q) × (after ≡ left)
-  pub skin : (vtx2ini vtx2def : List Float) (tri2vtx : List ℕ) (lambda myu : Float) (before : List Float) {r : Skin} {after : List Float}
-      → IsSkin binary64 vtx2ini vtx2def tri2vtx lambda myu before r after → r .number ≡ accepted → let answer = answerOf binary64 vtx2ini vtx2def lambda myu in
+  -- on the material's lambda and myu: a Lamé pair as it is, or the pair that is computed of Young's modulus and Poisson's ratio
+  pub stvk : (p0 p1 : List (List Float)) (m : Material) → let lame = lameOf binary64 (m .stiffness) in
+      EnergyGives (stvks.IsStvk binary64 p0 p1 m) (wdwddwOf binary64 (space.cornersOf p0) (space.cornersOf p1) (lame .lambda) (lame .myu))
+  pub plate : (p u : List (List Float)) (m : Material) → let lame = lameOf binary64 (m .stiffness) in
+      EnergyGives (plates.IsPlate binary64 p u m) (wDwDdwPlateBendingOf binary64 (plane.cornersOf p) (space.cornersOf u) (m .thickness) (lame .lambda) (lame .myu))
+  pub masses : (tri2vtx : List ℕ) (vtx2xy : List Float) (m : Material) (before : List Float) {r : ℕ} {after : List Float}
+      → IsMasses binary64 tri2vtx vtx2xy m before r after → r ≡ accepted → after ≡ massesOf binary64 tri2vtx vtx2xy (m .thickness) (m .density) before
+  pub one-panel : (tri2vtx : List ℕ) (vtx2xy : List Float) (m : Material) (before : List Float) {r q : ℕ} {after left : List Float}
+      → IsMasses binary64 tri2vtx vtx2xy m before r after → IsMasses binary64 tri2vtx vtx2xy m before q left → (r ≡ q) × (after ≡ left)
+  pub skin : (vtx2ini vtx2def : List Float) (tri2vtx : List ℕ) (m : Material) (before : List Float) {r : Skin} {after : List Float}
+      → IsSkin binary64 vtx2ini vtx2def tri2vtx m before r after → r .number ≡ accepted → let answer = answerOf binary64 vtx2ini vtx2def (m .stiffness) in
       (r .w ≡ energyOf binary64 answer tri2vtx) × (after ≡ gradientOf binary64 answer tri2vtx (length before))
-  pub one-skin : (vtx2ini vtx2def : List Float) (tri2vtx : List ℕ) (lambda myu : Float) (before : List Float) {r q : Skin} {after left : List Float}
-      → IsSkin binary64 vtx2ini vtx2def tri2vtx lambda myu before r after → IsSkin binary64 vtx2ini vtx2def tri2vtx lambda myu before q left → (r ≡ q) × (after ≡ left)
+  pub one-skin : (vtx2ini vtx2def : List Float) (tri2vtx : List ℕ) (m : Material) (before : List Float) {r q : Skin} {after left : List Float}
+      → IsSkin binary64 vtx2ini vtx2def tri2vtx m before r after → IsSkin binary64 vtx2ini vtx2def tri2vtx m before q left → (r ≡ q) × (after ≡ left)
   -- the marked examples of 01-scope 7
   pub examples : Hold table
 
 -- ---- demand 3: masses near the exact ones (01-scope 6)
 pub record Demand3 : Type 0 where
-  pub masses : (tri2vtx : List ℕ) (vtx2xy : List Float) (thick rho : Float) (before : List Float) {r : ℕ} {after : List Float}
-      → IsMasses binary64 tri2vtx vtx2xy thick rho before r after → inRange binary64 largestCoordinate largestFactor tri2vtx vtx2xy thick rho ≡ true
-      → bounds.Demand3 binary64 tri2vtx vtx2xy thick rho before r after
+  pub masses : (tri2vtx : List ℕ) (vtx2xy : List Float) (m : Material) (before : List Float) {r : ℕ} {after : List Float}
+      → IsMasses binary64 tri2vtx vtx2xy m before r after → let thick = m .thickness in let rho = m .density in
+      inRange binary64 largestCoordinate largestFactor tri2vtx vtx2xy thick rho ≡ true → bounds.Demand3 binary64 tri2vtx vtx2xy thick rho before r after
+
+-- ---- request 5/12: what of a material counts (01-scope 5.11), and what Young's modulus with Poisson's ratio is
+module _ {A : Type 0} (number : A → ℕ) (Is : Material → A → Type 0) where
+  -- where 7 is not given and the computed pair is finite, the answer is that for the pair as Lamé's
+  abbrev pub YoungIsLame : Type 0
+  YoungIsLame = (density thickness e v : Float) (r : A) → Is (youngMaterial density thickness e v) r → let pair = lameOf binary64 (Young e v) in
+      isFiniteOf (Lame (pair .lambda) (pair .myu)) ≡ true → (number r ≡ badStiffness → ⊥) → Is (lameMaterial density thickness (pair .lambda) (pair .myu)) r
+
+-- two materials that agree in what is used have one answer, whatever the rest is, a NaN too
+pub record Materials : Type 0 where
+  pub stvk-uses : (p0 p1 : List (List Float)) (m n : Material) → m .stiffness ≡ n .stiffness → {r q : Energy} → stvks.IsStvk binary64 p0 p1 m r → stvks.IsStvk binary64 p0 p1 n q → r ≡ q
+  pub plate-uses : (p u : List (List Float)) (m n : Material) → m .thickness ≡ n .thickness → m .stiffness ≡ n .stiffness → {r q : Energy}
+      → plates.IsPlate binary64 p u m r → plates.IsPlate binary64 p u n q → r ≡ q
+  pub masses-use : (tri2vtx : List ℕ) (vtx2xy : List Float) (m n : Material) (before : List Float) → m .density ≡ n .density → m .thickness ≡ n .thickness → {r q : ℕ} {after left : List Float}
+      → IsMasses binary64 tri2vtx vtx2xy m before r after → IsMasses binary64 tri2vtx vtx2xy n before q left → (r ≡ q) × (after ≡ left)
+  pub skin-uses : (vtx2ini vtx2def : List Float) (tri2vtx : List ℕ) (m n : Material) (before : List Float) → m .stiffness ≡ n .stiffness → {r q : Skin} {after left : List Float}
+      → IsSkin binary64 vtx2ini vtx2def tri2vtx m before r after → IsSkin binary64 vtx2ini vtx2def tri2vtx n before q left → (r ≡ q) × (after ≡ left)
+  pub stvk-young : (p0 p1 : List (List Float)) → YoungIsLame (λ r. r .number) (stvks.IsStvk binary64 p0 p1)
+  pub plate-young : (p u : List (List Float)) → YoungIsLame (λ r. r .number) (plates.IsPlate binary64 p u)
+  pub skin-young : (vtx2ini vtx2def : List Float) (tri2vtx : List ℕ) (before : List Float)
+      → YoungIsLame {A = Skin × List Float} (λ answer. answer .0 .number) (λ m answer. IsSkin binary64 vtx2ini vtx2def tri2vtx m before (answer .0) (answer .1))
 
 pub record Demands : Type 0 where
   pub demand-1 : Demand1
   pub demand-2 : Demand2
   pub demand-3 : Demand3
+  pub materials : Materials

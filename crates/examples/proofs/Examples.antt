@@ -11,6 +11,7 @@ use Rattle.refusal.specs.Panel.{withinLimits, badLengthOf}
 use Rattle.refusal.specs.declared.Energy.{Energy}
 use Rattle.places.specs.Places.{addVertex, addTriangle}
 use Rattle.places.specs.Plane.{cornersAt, namedFinite}
+use Rattle.material.specs.Material as material
 use Rattle.vec3.specs.Vec3 as vec3
 use Rattle.corners.specs.Plane as plane
 use Rattle.corners.specs.Space as space
@@ -39,19 +40,19 @@ plate-accepted : plate +2 .number ≡ accepted
 unfolding plate sub mul div ofBits every tabled each fold rootOf firstOf kernelNumber badEnergyOf energyOf vec3.overOf plane.isFiniteOf space.isFiniteOf coords.contravariantOf
     coords.inverseOf mat3.multVecOf bend.bendingOf bend.t0s bend.dstrainOf bend.wOf bend.dwOf bend.ddwOf
     shear.shearOf shear.rs shear.ss shear.dstrainOf shear.wOf shear.dwOf shear.ddwOf
-    plates.gdOf edges.guGuOf plates.guOf plates.stateOf plates.accumulatedOf plates.wOf plates.dwOf plates.ddwOf edges.planeOf zeroDivisorOf mitc.badInputOf plates.wDwDdwPlateBendingOf mitc.testsOf mitc.plateOf
+    plates.gdOf edges.guGuOf plates.guOf plates.stateOf plates.accumulatedOf plates.wOf plates.dwOf plates.ddwOf edges.planeOf zeroDivisorOf material.isFiniteOf material.lameOf material.isBadOf material.testedOf plates.wDwDdwPlateBendingOf mitc.testsOf mitc.plateOf
 plate-accepted = refl
 
 plate-refused : plate +0 .number ≡ zeroDivisor
 unfolding plate sub mul div ofBits firstOf kernelNumber energyOf vec3.overOf plane.isFiniteOf space.isFiniteOf coords.contravariantOf coords.inverseOf plates.gdOf plates.guOf
-    plates.stateOf edges.planeOf zeroDivisorOf mitc.badInputOf plates.wDwDdwPlateBendingOf mitc.testsOf mitc.plateOf
+    plates.stateOf edges.planeOf zeroDivisorOf material.isFiniteOf material.lameOf material.isBadOf material.testedOf plates.wDwDdwPlateBendingOf mitc.testsOf mitc.plateOf
 plate-refused = refl
 
 stvk-accepted : stvk .number ≡ accepted
 unfolding stvk sub mul div ofBits every tabled each rootOf firstOf kernelNumber badEnergyOf energyOf vec3.normOf vec3.overOf vec3.unitOf space.isFiniteOf tri3.normalOf
     tri3.unitNormalAreaOf coords.contravariantOf mat3.multVecOf edges.spaceOf edges.glstrainOf zeroDivisorOf energy.atOf energy.alongOf energy.restOf energy.glstrainOf
     energy.gugu0Of energy.elasticityTensorOf energy.stateOf energy.wOf energy.dNdrOf energy.dwAtOf energy.dwOf energy.dtmp0Of energy.rowOf energy.blockOf energy.ddwOf
-    energy.wdwddwOf stvks.badInputOf stvks.testsOf stvks.stvkOf
+    energy.wdwddwOf material.isFiniteOf material.lameOf material.isBadOf material.testedOf stvks.testsOf stvks.stvkOf
 stvk-accepted = refl
 
 abbrev plateAs : (thk n : ℕ) → Energy
@@ -60,7 +61,7 @@ plateAs thk n =
     energyOf binary64 n (plates.wOf binary64 s) (plates.dwOf binary64 s) (plates.ddwOf binary64 s)
 
 plate-as : (thk : ℕ) {n : ℕ} → plate thk .number ≡ n → plate thk ≡ plateAs thk n
-unfolding plate mitc.plateOf plates.wDwDdwPlateBendingOf energyOf
+unfolding plate material.lameOf mitc.plateOf plates.wDwDdwPlateBendingOf energyOf
 plate-as thk is = ap (plateAs thk) is
 
 abbrev stvkAs : (n : ℕ) → Energy
@@ -69,7 +70,7 @@ stvkAs n =
     energyOf binary64 n (energy.wOf binary64 s) (energy.dwOf binary64 s) (energy.ddwOf binary64 s)
 
 stvk-as : {n : ℕ} → stvk .number ≡ n → stvk ≡ stvkAs n
-unfolding stvk stvks.stvkOf energy.wdwddwOf energyOf
+unfolding stvk material.lameOf stvks.stvkOf energy.wdwddwOf energyOf
 stvk-as is = ap stvkAs is
 
 numbers-given : Hold (tableOf (plateAs +2 accepted) (plateAs +0 zeroDivisor) (stvkAs accepted))
@@ -79,7 +80,7 @@ unfolding tableOf sub mul div ofBits toBits every tabled each fold foldThrees ro
     edges.guGuOf plates.guOf plates.stateOf plates.accumulatedOf plates.wOf addVertex addTriangle cornersAt badLengthOf namedFinite badInputOf massOf addMasses addAll massesOf
     numberOf bufferOf leftOf zeroDivisorOf edges.planeOf edges.spaceOf edges.glstrainOf strain.restOf strain.gugu0Of strain.wOf strain.hogeOf strain.dwKOf strain.dwOf strain.valuesOf strain.restOfGreenLagrange strains.testedOf strains.testsOf strains.strainOf strains.answerOf energy.atOf energy.alongOf
     energy.restOf energy.glstrainOf energy.gugu0Of energy.elasticityTensorOf energy.stateOf energy.wOf energy.dNdrOf energy.dwAtOf energy.dwOf quadratic.isFiniteOf
-    bending.divisorsOf bending.kOf bending.wOf bending.dwdpOf bending.wdwOf quadratic.testsOf quadratic.bendingOf quadratic.answerOf
+    material.lameOf bending.divisorsOf bending.kOf bending.wOf bending.dwdpOf bending.wdwOf quadratic.testsOf quadratic.bendingOf quadratic.answerOf
 numbers-given = refl
 
 -- THE theorem of the marked examples

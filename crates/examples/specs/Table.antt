@@ -8,6 +8,10 @@ use lib.ListN.{replicate}
 use Rattle.float.specs.Lists.{_!_, total}
 use Rattle.root.specs.Root.{rootWordOf}
 use Rattle.refusal.specs.declared.Energy.{Energy}
+use Rattle.material.specs.Material.{lameOf, stockSheet}
+use Rattle.material.specs.declared.LamePair.{LamePair}
+use Rattle.material.specs.declared.Stiffness.{Stiffness}
+use Rattle.material.specs.declared.Stiffness.the-variants.{Lame}
 use Rattle.corners.specs.Plane as plane
 use Rattle.corners.specs.Space as space
 use Rattle.del_geo_core.specs.declared.tri2.Tri2.{Tri2}
@@ -55,6 +59,10 @@ sumAfter names = total binary64 (λ v. bufferAfter names ! (v * 3)) (0 ∷ 1 ∷
 abbrev root : ℕ → List ℕ
 root x = rootWordOf binary64 x ∷ []
 
+-- that of 8 and 9: lambda 0, myu 1
+abbrev pub stiffness : Stiffness
+stiffness = Lame (double +0) (double +1)
+
 -- the triangle of 8 and 10
 abbrev pub p : Tri2
 p = plane.cornersOf (doubles (+0 ∷ +0 ∷ []) ∷ doubles (+1 ∷ +0 ∷ []) ∷ doubles (+0 ∷ +1 ∷ []) ∷ [])
@@ -64,7 +72,7 @@ abbrev pub u : Tri3
 u = space.cornersOf (doubles (+0 ∷ +0 ∷ +0 ∷ []) ∷ doubles (+1 ∷ +0 ∷ +0 ∷ []) ∷ doubles (+0 ∷ +0 ∷ +0 ∷ []) ∷ [])
 
 unfoldable pub plate : (thk : ℕ) → Energy
-plate thk = plateOf binary64 p u (double thk) (double +0) (double +1)
+plate thk = plateOf binary64 p u (double thk) stiffness
 
 -- the sheet of 9 at rest in space, and pulled to twice its length in x, as in 10
 abbrev pub p0 : Tri3
@@ -74,7 +82,7 @@ abbrev pub p1 : Tri3
 p1 = space.cornersOf (doubles (+0 ∷ +0 ∷ +0 ∷ []) ∷ doubles (+2 ∷ +0 ∷ +0 ∷ []) ∷ doubles (+0 ∷ +1 ∷ +0 ∷ []) ∷ [])
 
 unfoldable pub stvk : Energy
-stvk = stvkOf binary64 p0 p1 (double +0) (double +1)
+stvk = stvkOf binary64 p0 p1 stiffness
 
 abbrev strains : Strain
 strains = strain.portedOf binary64 p p1
@@ -92,6 +100,10 @@ bends =
     let ini = doubles (+0 ∷ +2 ∷ +0 ∷ []) ∷ doubles (+0 ∷ -2 ∷ +0 ∷ []) ∷ origin ∷ doubles (+2 ∷ +0 ∷ +0 ∷ []) ∷ [] in
     let def = doubles (+0 ∷ +0 ∷ +1 ∷ []) ∷ origin ∷ origin ∷ origin ∷ [] in
     bending.answerOf binary64 (bending.cornersOf ini) (bending.cornersOf def)
+
+-- 16: what `Material::STOCK_SHEET` is proved to be
+abbrev stock : LamePair
+stock = lameOf binary64 (stockSheet binary64 .stiffness)
 
 -- the table, over the answers of 8 at thickness 2 and 0 and that of 9
 unfoldable pub tableOf : (plate2 plate0 stvk : Energy) → List Row
@@ -146,6 +158,8 @@ tableOf plate2 plate0 stvk =
     ∷ (ported .number ∷ words (ported .w)) is (0 ∷ +6 ∷ +0 ∷ +0 ∷ [])
     -- 15. the book's strain of that pair: 1.5, 0, 0
     ∷ (book .number ∷ words (book .w)) is (0 ∷ 0x3ff8_0000_0000_0000 ∷ +0 ∷ +0 ∷ [])
+    -- 16. the stock sheet's lambda and myu
+    ∷ words (stock .lambda ∷ stock .myu ∷ []) is (0x41c9_9999_9999_999a ∷ 0x41c9_9999_9999_999a ∷ [])
     ∷ []
 
 abbrev pub table : List Row

@@ -4,6 +4,7 @@
 ghost use Prim.Native.Nat.{_+_, _≤_, _<_};
 ghost use lib.ListN.{length};
 use libc::STDOUT_FILENO;
+use material::Material;
 
 enum Routine {
     Masses,
@@ -53,7 +54,8 @@ fn put_bits(x: f64) {
 }
 
 fn masses(vtx2xy: &[f64], tri2vtx: &[usize], vtx2mass: &mut [f64], last: usize) {
-    let number = mitc_tri3::mass_lumped_plate_bending(tri2vtx, vtx2xy, 1.0, 2.0, vtx2mass);
+    let material = Material::lame(2.0, 1.0, 0.0, 0.0);
+    let number = mitc_tri3::mass_lumped_plate_bending(tri2vtx, vtx2xy, material, vtx2mass);
     put(vtx2xy.len() as u64);
     put(tri2vtx.len() as u64);
     put(vtx2mass.len() as u64);
@@ -70,7 +72,8 @@ fn whole_skin(
     vtx2dw: &mut [f64],
     last: usize,
 ) {
-    let answer = skin::wdw(vtx2ini, vtx2def, tri2vtx, 1.0, 2.0, vtx2dw);
+    let material = Material::lame(0.0, 0.0, 1.0, 2.0);
+    let answer = skin::wdw(vtx2ini, vtx2def, tri2vtx, material, vtx2dw);
     put(vtx2ini.len() as u64);
     put(vtx2def.len() as u64);
     put(tri2vtx.len() as u64);

@@ -17,7 +17,8 @@ use Rattle.refusal.specs.Panel.{maxTriangles, badLengthOf, namesBelow}
 use Rattle.refusal.proofs.Panel.{sized}
 use Rattle.rounding.specs.Whole.{isNumber}
 use Rattle.rounding.proofs.Whole.{number-iff}
-use Rattle.mitc_tri3.specs.Example.{points, thick, rho}
+use Rattle.material.specs.declared.Material.{Material}
+use Rattle.mitc_tri3.specs.Example as example
 use Rattle.places.specs.Plane.{verticesOf, pointAt, namedFinite}
 use Rattle.corners.specs.Plane.{pointFinite}
 use Rattle.masses.specs.Masses.{massesOf}
@@ -27,7 +28,7 @@ use Rattle.mitc_tri3.specs.Masses.{badInputOf, bufferOf, IsMasses}
 use Rattle.mitc_tri3.proofs.MassesAnswer.{numbers-exactly, accepted-masses}
 use Rattle.mass_bounds.specs.Range.{largestCoordinate, largestFactor, wholeAt, inRange}
 use Rattle.mass_bounds.specs.Bounds.{NearExact, Demand3}
-use Rattle.mass_bounds.specs.Example.{names, firstNames, untouched, sharpPoints, sharpRho, sharpThick, sharpBefore}
+use Rattle.mass_bounds.specs.Example.{names, firstNames, untouched, sharpPoints, sharpRho, sharpThick, sharpSheet, sharpBefore}
 use Rattle.mass_bounds.proofs.RuledOut.{meets, right-lengths, right-names}
 use Rattle.mass_bounds.proofs.Sharp as sharp
 use Rattle.mass_bounds.proofs.Premises.{point, in-range}
@@ -35,8 +36,14 @@ use Rattle.mass_bounds.proofs.Share.{Margins}
 use Rattle.mass_bounds.proofs.Vertex.{vertex}
 use Rattle.mass_bounds.proofs.Sums.{add-up, sum-near}
 
-module _ (f : Format) {B R N : ℕ} (m : Margins f B R N) (tri2vtx : List ℕ) (vtx2xy : List Float) (thick rho : Float) (before : List Float)
-    (range : inRange f B R tri2vtx vtx2xy thick rho ≡ true) where
+module _ (f : Format) {B R N : ℕ} (m : Margins f B R N) (tri2vtx : List ℕ) (vtx2xy : List Float) (material : Material) (before : List Float)
+    (range : inRange f B R tri2vtx vtx2xy (material .thickness) (material .density) ≡ true) where
+  abbrev thick : Float
+  thick = material .thickness
+
+  abbrev rho : Float
+  rho = material .density
+
   abbrev vertices : ℕ
   vertices = verticesOf vtx2xy
 
@@ -75,19 +82,19 @@ module _ (f : Format) {B R N : ℕ} (m : Margins f B R N) (tri2vtx : List ℕ) (
       good i e = let p = point f B vtx2xy i e in rw (is-true (finite (pointAt vtx2xy i .x)) (p .0 .number .fine), is-true (finite (pointAt vtx2xy i .y)) (p .1 .number .fine))
 
   -- ---- THE theorem of demand 3, of a format with these margins: with the right lengths there are no more than N names
-  module _ {r : ℕ} {after : List Float} (is : IsMasses f tri2vtx vtx2xy thick rho before r after) (few : badLengthOf vertices (length tri2vtx) (length before) ≡ false → length tri2vtx ≤ N) where
+  module _ {r : ℕ} {after : List Float} (is : IsMasses f tri2vtx vtx2xy material before r after) (few : badLengthOf vertices (length tri2vtx) (length before) ≡ false → length tri2vtx ≤ N) where
     accepts : badLengthOf vertices (length tri2vtx) (length before) ≡ false → namesBelow vertices tri2vtx ≡ true → r ≡ accepted
     accepts lengths below =
-        numbers-exactly f tri2vtx vtx2xy thick rho before is .accepted-exactly .1
+        numbers-exactly f tri2vtx vtx2xy material before is .accepted-exactly .1
         (lengths, (rw below, (inputs-good, (rw (masses-finite (sized _ _ _ lengths .1) below (few lengths)), tt))))
 
     named : r ≡ accepted → namesBelow vertices tri2vtx ≡ true
-    named e = not-false _ (numbers-exactly f tri2vtx vtx2xy thick rho before is .accepted-exactly .0 e .1 .0)
+    named e = not-false _ (numbers-exactly f tri2vtx vtx2xy material before is .accepted-exactly .0 e .1 .0)
 
     near : r ≡ accepted → NearExact f tri2vtx vtx2xy thick rho after
     near e =
-        let lengths = numbers-exactly f tri2vtx vtx2xy thick rho before is .accepted-exactly .0 e .0 in
-        rw (accepted-masses f tri2vtx vtx2xy thick rho before is e) (masses-near (sized _ _ _ lengths .1) (named e) (few lengths))
+        let lengths = numbers-exactly f tri2vtx vtx2xy material before is .accepted-exactly .0 e .0 in
+        rw (accepted-masses f tri2vtx vtx2xy material before is e) (masses-near (sized _ _ _ lengths .1) (named e) (few lengths))
 
     pub demand : Demand3 f tri2vtx vtx2xy thick rho before r after
     demand = record {
@@ -101,12 +108,13 @@ module _ (f : Format) {B R N : ℕ} (m : Margins f B R N) (tri2vtx : List ℕ) (
 margins : Margins binary64 largestCoordinate largestFactor (maxTriangles * 3)
 margins = record { wide = lit< tt; few = lit≤ tt; high = lit≤ tt }
 
-pub demand-3 : (tri2vtx : List ℕ) (vtx2xy : List Float) (thick rho : Float) (before : List Float) {r : ℕ} {after : List Float} → IsMasses binary64 tri2vtx vtx2xy thick rho before r after
-    → inRange binary64 largestCoordinate largestFactor tri2vtx vtx2xy thick rho ≡ true → Demand3 binary64 tri2vtx vtx2xy thick rho before r after
-demand-3 tri2vtx vtx2xy thick rho before is range = demand binary64 margins tri2vtx vtx2xy thick rho before range is (λ lengths. sized _ _ _ lengths .2)
+pub demand-3 : (tri2vtx : List ℕ) (vtx2xy : List Float) (material : Material) (before : List Float) {r : ℕ} {after : List Float} → IsMasses binary64 tri2vtx vtx2xy material before r after
+    → let thick = material .thickness in let rho = material .density in
+    inRange binary64 largestCoordinate largestFactor tri2vtx vtx2xy thick rho ≡ true → Demand3 binary64 tri2vtx vtx2xy thick rho before r after
+demand-3 tri2vtx vtx2xy material before is range = demand binary64 margins tri2vtx vtx2xy material before range is (λ lengths. sized _ _ _ lengths .2)
 
-pub met : NearExact binary64 names points thick rho (bufferOf binary64 names points thick rho untouched)
-met = let d = demand-3 names points thick rho untouched (refl, refl) meets in d .near (d .accepts right-lengths right-names)
+pub met : let thick = example.thick in let rho = example.rho in NearExact binary64 names example.points thick rho (bufferOf binary64 names example.points thick rho untouched)
+met = let d = demand-3 names example.points example.sheet untouched (refl, refl) meets in d .near (d .accepts right-lengths right-names)
 
 pub met-sharp : NearExact binary64 firstNames sharpPoints sharpThick sharpRho (bufferOf binary64 firstNames sharpPoints sharpThick sharpRho sharpBefore)
-met-sharp = let d = demand-3 firstNames sharpPoints sharpThick sharpRho sharpBefore (refl, refl) sharp.meets in d .near (d .accepts sharp.right-lengths sharp.right-names)
+met-sharp = let d = demand-3 firstNames sharpPoints sharpSheet sharpBefore (refl, refl) sharp.meets in d .near (d .accepts sharp.right-lengths sharp.right-names)

@@ -3,9 +3,11 @@ use mathlib.Core.Bool.{false}
 use mathlib.Core.List.{List, [], _∷_}
 use Prim.Native.Nat.{ℕ}
 use lib.IntN.{pos}
-use lib.Ieee.{Float, fin, binary64, ofBits}
+use lib.Ieee.{Float, nan, fin, binary64, ofBits}
 use lib.ListN.{replicate}
 use Rattle.float.specs.Small.{zero, one, seven, twelve}
+use Rattle.material.specs.Material.{lameMaterial}
+use Rattle.material.specs.declared.Material.{Material}
 
 abbrev pub names : List ℕ
 names = 0 ∷ 1 ∷ 2 ∷ 1 ∷ 3 ∷ 2 ∷ []
@@ -34,6 +36,9 @@ sharpRho = ofBits binary64 0x400f_ca9d_a000_0000
 
 abbrev pub sharpThick : Float
 sharpThick = ofBits binary64 0x400f_d95c_0000_0000
+
+abbrev pub sharpSheet : Material
+sharpSheet = lameMaterial sharpRho sharpThick nan nan
 
 abbrev pub sharpBefore : List Float
 sharpBefore = replicate 9 zero

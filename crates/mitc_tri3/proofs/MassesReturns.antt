@@ -12,11 +12,12 @@ use Rattle.refusal.specs.Left.{leftOf}
 use Rattle.refusal.specs.Panel.{badLengthOf, namesBelow}
 use Rattle.places.specs.Plane.{verticesOf}
 use Rattle.masses.specs.Masses.{addAll, massesOf}
-use Rattle.mitc_tri3.specs.Masses.{badInputOf, keeps, numberOf, bufferOf, IsMasses}
+use Rattle.mitc_tri3.specs.Masses.{badInputOf, keeps, numberOf, bufferOf}
 
 module _ (f : Format) (tri : List ℕ) (xy : List Float) (thick rho : Float) (before : List Float) where
+  -- what `IsMasses` says of a material of this thickness and density
   abbrev Answer : ℕ → List Float → Type 0
-  Answer r after = IsMasses f tri xy thick rho before r after
+  Answer r after = (r ≡ numberOf f tri xy thick rho before) × (after ≡ bufferOf f tri xy thick rho before)
 
   abbrev masses : List Float
   masses = massesOf f tri xy thick rho before

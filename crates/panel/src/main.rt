@@ -4,6 +4,7 @@ ghost use Prim.Native.Nat.{_≤_};
 mod number;
 
 use libc::STDOUT_FILENO;
+use material::Material;
 
 fn text(bytes: &[u8]) {
     io::write_all(STDOUT_FILENO, bytes);
@@ -57,21 +58,23 @@ fn put_refusal(number: u32) {
     text(b")\n");
 }
 
-fn put_heading(vertices: usize, triangles: usize, thick: f64, rho: f64) {
+fn put_heading(vertices: usize, triangles: usize, density: f64, thickness: f64) {
     text(b"vertices ");
     number::put_whole(vertices as u64);
     text(b", triangles ");
     number::put_whole(triangles as u64);
     text(b", density ");
-    number::put(rho);
+    number::put(density);
     text(b", thickness ");
-    number::put(thick);
+    number::put(thickness);
     text(b"\n");
 }
 
-fn size(tri2vtx: &[usize], vtx2xy: &[f64], thick: f64, rho: f64, vtx2mass: &mut [f64]) {
-    put_heading(vtx2xy.len() / 2, tri2vtx.len() / 3, thick, rho);
-    let number = mitc_tri3::mass_lumped_plate_bending(tri2vtx, vtx2xy, thick, rho, vtx2mass);
+// Masses look at no stiffness.
+fn size(tri2vtx: &[usize], vtx2xy: &[f64], density: f64, thickness: f64, vtx2mass: &mut [f64]) {
+    put_heading(vtx2xy.len() / 2, tri2vtx.len() / 3, density, thickness);
+    let material = Material::lame(density, thickness, 0.0, 0.0);
+    let number = mitc_tri3::mass_lumped_plate_bending(tri2vtx, vtx2xy, material, vtx2mass);
     if number != refusal::ACCEPTED {
         put_refusal(number);
         return;
@@ -83,7 +86,7 @@ fn size(tri2vtx: &[usize], vtx2xy: &[f64], thick: f64, rho: f64, vtx2mass: &mut 
 fn square(tri2vtx: [usize; 6]) {
     let vtx2xy = [0.0, 0.0, 6.0, 0.0, 0.0, 6.0, 6.0, 6.0];
     let mut vtx2mass = [0.0; 12];
-    size(&tri2vtx, &vtx2xy, 1.0, 2.0, &mut vtx2mass);
+    size(&tri2vtx, &vtx2xy, 2.0, 1.0, &mut vtx2mass);
 }
 
 // The wall strip: two rows of eleven vertices, the hinge row first.
@@ -127,7 +130,7 @@ fn strip() {
     let vtx2xy = coordinates();
     let tri2vtx = names();
     let mut vtx2mass = [0.0; 66];
-    size(&tri2vtx, &vtx2xy, 0.5, 1.0 / 512.0, &mut vtx2mass);
+    size(&tri2vtx, &vtx2xy, 1.0 / 512.0, 0.5, &mut vtx2mass);
 }
 
 fn main() {

@@ -1,6 +1,11 @@
 // Words and numbers from standard input.
 ghost use Prim.Native.Nat.{_≤_};
 use libc::STDIN_FILENO;
+use material::Material;
+
+const LAME: u64 = material::LAME as u64;
+
+const YOUNG: u64 = material::YOUNG as u64;
 
 // The input can end at a word's first byte (`ended`), or within it; ok where the word is whole.
 pub(crate) struct Word {
@@ -51,6 +56,28 @@ pub(crate) fn fill_numbers(xs: &mut [f64]) -> bool {
         ok = ok & read.ok;
     }
     ok
+}
+
+// A material, ok where its five words are whole and the first is a stiffness's.
+pub(crate) struct Read {
+    pub ok: bool,
+    pub material: Material,
+}
+
+pub(crate) fn next_material() -> Read {
+    let s = next_word();
+    let mut x = [0.0; 4];
+    let filled = fill_numbers(&mut x);
+    let known = (s.w == LAME) | (s.w == YOUNG);
+    let material = if s.w == LAME {
+        Material::lame(x[0], x[1], x[2], x[3])
+    } else {
+        Material::young(x[0], x[1], x[2], x[3])
+    };
+    Read {
+        ok: s.ok & filled & known,
+        material,
+    }
 }
 
 // These take numbers from the i-th on.

@@ -1,9 +1,14 @@
-// The kernels by their numbers (docs/REPLAY.md): how many numbers each takes, and its answer.
+// The kernels by their numbers (docs/REPLAY.md): how many numbers each takes before its material, if it takes one, and its answer.
 ghost use Prim.Native.Nat.{_≤_};
 use crate::input;
 use crate::output;
+use material::Material;
 use refusal::Energy;
 use stvk_tri3::Strain;
+
+const STVK: u64 = 4;
+
+const PLATE: u64 = 5;
 
 // 0 where the number is no kernel's.
 pub(crate) fn inputs(kind: u64) -> usize
@@ -12,8 +17,8 @@ pub(crate) fn inputs(kind: u64) -> usize
     match kind {
         2 => 24,
         3 | 8 => 15,
-        4 => 20,
-        5 => 18,
+        STVK => 18,
+        PLATE => 15,
         _ => 0,
     }
 }
@@ -38,20 +43,29 @@ fn put_energy(answer: Energy) {
     output::put_all(&answer.ddw);
 }
 
-fn stvk(x: [f64; 24]) -> Energy {
-    stvk_tri3::wdwddw_(input::triangle(x, 0), input::triangle(x, 9), x[18], x[19])
-}
-
-fn plate(x: [f64; 24]) -> Energy {
-    mitc_tri3::w_dw_ddw_plate_bending(input::plane(x), input::triangle(x, 6), x[15], x[16], x[17])
+pub(crate) fn has_material(kind: u64) -> bool {
+    (kind == STVK) | (kind == PLATE)
 }
 
 pub(crate) fn answer(kind: u64, x: [f64; 24]) {
     match kind {
         2 => put_bending(x),
         3 => put_strain(stvk_tri3::wdw(input::plane(x), input::triangle(x, 6))),
-        4 => put_energy(stvk(x)),
-        8 => put_strain(stvk_tri3::wdw_green_lagrange(input::plane(x), input::triangle(x, 6))),
-        _ => put_energy(plate(x)),
+        _ => put_strain(stvk_tri3::wdw_green_lagrange(input::plane(x), input::triangle(x, 6))),
+    }
+}
+
+pub(crate) fn answer_of(kind: u64, x: [f64; 24], material: Material) {
+    match kind {
+        STVK => put_energy(stvk_tri3::wdwddw_(
+            input::triangle(x, 0),
+            input::triangle(x, 9),
+            material,
+        )),
+        _ => put_energy(mitc_tri3::w_dw_ddw_plate_bending(
+            input::plane(x),
+            input::triangle(x, 6),
+            material,
+        )),
     }
 }

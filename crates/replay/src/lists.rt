@@ -1,22 +1,27 @@
 // Records with lists, which are as long as the record says (docs/REPLAY.md): masses and whole skins.
-ghost use Prim.Native.Nat.{_+_, _≤_};
+ghost use Prim.Native.Nat.{_≤_};
 ghost use lib.ListN.{length};
 use crate::input;
 use crate::output;
+use material::Material;
 use skin::Skin;
 
-// The numbers are the two that are no list's, the n of the first list, then a skin's second list. Masses have no place and no energy.
-fn run(skin: bool, n: usize, numbers: &[f64], tri2vtx: &[usize], buffer: &mut [f64]) -> Skin
-    requires { ⌜ 2 + n ≤ length (now numbers) ⌝ }
+// The numbers are the n of the first list, then a skin's second list. Masses have no place and no energy.
+fn run(
+    skin: bool,
+    n: usize,
+    numbers: &[f64],
+    tri2vtx: &[usize],
+    material: Material,
+    buffer: &mut [f64],
+) -> Skin
+    requires { ⌜ n ≤ length (now numbers) ⌝ }
 {
-    let end = 2 + n;
-    let first = &numbers[2..end];
-    let a = numbers[0];
-    let b = numbers[1];
+    let first = &numbers[0..n];
     if skin {
-        return skin::wdw(first, &numbers[end..], tri2vtx, a, b, buffer);
+        return skin::wdw(first, &numbers[n..], tri2vtx, material, buffer);
     }
-    let number = mitc_tri3::mass_lumped_plate_bending(tri2vtx, first, a, b, buffer);
+    let number = mitc_tri3::mass_lumped_plate_bending(tri2vtx, first, material, buffer);
     Skin {
         number,
         place: 0,
@@ -40,36 +45,38 @@ fn is_filled(
     n: usize,
     numbers: &mut [f64],
     tri2vtx: &mut [usize],
+    material: Material,
     buffer: &mut [f64],
 ) -> bool
-    requires { ⌜ 2 + n ≤ length (now numbers) ⌝ }
+    requires { ⌜ n ≤ length (now numbers) ⌝ }
 {
     let ok = input::fill_numbers(numbers)
         & input::fill_names(tri2vtx)
         & input::fill_numbers(buffer);
     if ok {
-        let answer = run(skin, n, numbers, tri2vtx, buffer);
+        let answer = run(skin, n, numbers, tri2vtx, material, buffer);
         put(skin, answer, buffer);
     }
     ok
 }
 
 // Whether the rest of the record was there: room for every length that is read, filled and answered.
-fn is_read(skin: bool, n: usize, m: usize, t: usize, b: usize) -> bool
+fn is_read(skin: bool, n: usize, m: usize, t: usize, b: usize, material: Material) -> bool
     requires { ⌜ n ≤ 4097 ⌝ }
     requires { ⌜ m ≤ 4097 ⌝ }
     requires { ⌜ t ≤ 4097 ⌝ }
     requires { ⌜ b ≤ 4097 ⌝ }
 {
-    let mut numbers = [0.0; 8196];
+    let mut numbers = [0.0; 8194];
     let mut tri2vtx = [0usize; 4097];
     let mut buffer = [0.0; 4097];
-    let end = 2 + n + m;
+    let end = n + m;
     is_filled(
         skin,
         n,
         &mut numbers[0..end],
         &mut tri2vtx[0..t],
+        material,
         &mut buffer[0..b],
     )
 }
@@ -90,6 +97,8 @@ pub(crate) fn is_answered(skin: bool) -> bool {
     let m = second_length(skin);
     let t = input::next_length();
     let b = input::next_length();
+    let read = input::next_material();
+    let material = read.material;
     let fits = (n <= 4096) & (m <= 4096) & (t <= 4096) & (b <= 4096);
-    fits && is_read(skin, n, m, t, b)
+    fits && read.ok && is_read(skin, n, m, t, b, material)
 }

@@ -27,7 +27,7 @@ fn replay_root() -> bool {
     read.ok
 }
 
-// A helper's record, or a kernel's, with so many numbers; none where the count is 0.
+// A helper's record, or a kernel's without a material, with so many numbers; none where the count is 0.
 fn replay_numbers(helper: bool, number: u64, count: usize) -> bool
     requires { ⌜ count ≤ 24 ⌝ }
 {
@@ -44,6 +44,30 @@ fn replay_numbers(helper: bool, number: u64, count: usize) -> bool
     known
 }
 
+// A record of a kernel that takes a material.
+fn replay_material(kind: u64, count: usize) -> bool
+    requires { ⌜ count ≤ 24 ⌝ }
+{
+    let mut x = [0.0; 24];
+    let filled = input::fill_numbers(&mut x[0..count]);
+    let read = input::next_material();
+    let known = filled & read.ok;
+    if known {
+        let material = read.material;
+        kernels::answer_of(kind, x, material);
+        output::end_line();
+    }
+    known
+}
+
+fn replay_kernel(kind: u64) -> bool {
+    let count = kernels::inputs(kind);
+    if kernels::has_material(kind) {
+        return replay_material(kind, count);
+    }
+    replay_numbers(false, kind, count)
+}
+
 fn replay_helper() -> bool {
     let helper = input::next_word();
     helper.ok && replay_numbers(true, helper.w, helpers::inputs(helper.w))
@@ -55,7 +79,7 @@ fn replay(kind: u64) -> bool {
         MASSES => lists::is_answered(false),
         SKIN => lists::is_answered(true),
         HELPER => replay_helper(),
-        _ => replay_numbers(false, kind, kernels::inputs(kind)),
+        _ => replay_kernel(kind),
     }
 }
 

@@ -25,6 +25,8 @@ use Rattle.refusal.proofs.Ladder.{first-above}
 use Rattle.refusal.proofs.Left.{left-made, left-kept, left-cleared}
 use Rattle.refusal.proofs.Listed.{threes-above}
 use Rattle.refusal.proofs.ListedNumber.{listed-exactly, early-exactly}
+use Rattle.material.specs.declared.Material.{Material}
+use Rattle.material.specs.declared.Stiffness.{Stiffness}
 use Rattle.stvk_tri3.specs.Stvk.{stvkOf}
 use Rattle.skin.specs.Sums.{Kernel, numbersOf, energyOf, gradientOf}
 use Rattle.skin.specs.Skin.{badLengthOf, earlyOf, lateOf, keeps, skinOf, answerOf, IsSkinOver, IsSkin}
@@ -34,14 +36,14 @@ use Rattle.skin.specs.declared.Skin.{Skin}
 abbrev pub Above : Kernel → Type 0
 Above answer = (i0 i1 i2 : ℕ) → (answer i0 i1 i2 .number ≡ accepted → ⊥) → badName < answer i0 i1 i2 .number
 
-pub stvk-above : (f : Format) (vtx2ini vtx2def : List Float) (lambda myu : Float) → Above (answerOf f vtx2ini vtx2def lambda myu)
+pub stvk-above : (f : Format) (vtx2ini vtx2def : List Float) (stiffness : Stiffness) → Above (answerOf f vtx2ini vtx2def stiffness)
 unfolding answerOf stvkOf answers.energyOf
-stvk-above f vtx2ini vtx2def lambda myu i0 i1 i2 = kernel-above _
+stvk-above f vtx2ini vtx2def stiffness i0 i1 i2 = kernel-above _
 
 -- no second answer fits
-pub unique : (f : Format) (vtx2ini vtx2def : List Float) (tri2vtx : List ℕ) (lambda myu : Float) (before : List Float) {r q : Skin} {after left : List Float}
-    → IsSkin f vtx2ini vtx2def tri2vtx lambda myu before r after → IsSkin f vtx2ini vtx2def tri2vtx lambda myu before q left → (r ≡ q) × (after ≡ left)
-unique f vtx2ini vtx2def tri2vtx lambda myu before a b = let e = only (a .0) (b .0) in (e, only (a .1) (rw e (b .1)))
+pub unique : (f : Format) (vtx2ini vtx2def : List Float) (tri2vtx : List ℕ) (m : Material) (before : List Float) {r q : Skin} {after left : List Float}
+    → IsSkin f vtx2ini vtx2def tri2vtx m before r after → IsSkin f vtx2ini vtx2def tri2vtx m before q left → (r ≡ q) × (after ≡ left)
+unique f vtx2ini vtx2def tri2vtx m before a b = let e = only (a .0) (b .0) in (e, only (a .1) (rw e (b .1)))
 
 module _ (answer : Kernel) (tri2vtx : List ℕ) where
   -- the number of triangle k

@@ -1,12 +1,12 @@
 -- What `wdw` answers (01-scope 5.8, 2.5): the sums of a kernel's answers, or the first thing in order that is refused, and where. First for any kernel; `wdw` asks StVK.
 use mathlib.Core.Path.{_≡_}
-use mathlib.Core.Bool.{Bool, cond, not, _&&_, _||_}
+use mathlib.Core.Bool.{Bool, true, cond, not, _&&_, _||_}
 use mathlib.Core.List.{List, [], _∷_}
-use Prim.Native.Nat.{ℕ, _/_}
+use Prim.Native.Nat.{ℕ, _/_, _<_}
 use lib.Dec.{eqb, leb}
 use lib.Ieee.{Float, Format}
 use lib.Ieee.Scale.{finite}
-use lib.ListN.{length}
+use lib.ListN.{length, getD}
 use Rattle.float.specs.Lists.{allFinite}
 use Rattle.float.specs.Ops.{Ops, ops}
 use Rattle.refusal.specs.Refusal.{accepted, badLength, badName, badAnswer, Row, _⇒_}
@@ -14,6 +14,10 @@ use Rattle.refusal.specs.Panel as panel
 use Rattle.refusal.specs.Panel.{namesBelow}
 use Rattle.refusal.specs.Listed.{listedNumber, listedPlace}
 use Rattle.refusal.specs.Left.{leftOf}
+use Rattle.material.specs.Material.{isFiniteOf, isBadOf}
+use Rattle.material.specs.declared.Material.{Material}
+use Rattle.material.specs.declared.Stiffness.{Stiffness}
+use Rattle.corners.specs.Space.{isFiniteOf as cornersFinite}
 use Rattle.places.specs.Space.{cornersAt}
 use Rattle.stvk_tri3.specs.Stvk.{stvkOf}
 use Rattle.skin.specs.Sums.{Kernel, numbersOf, energyOf, gradientOf}
@@ -56,9 +60,18 @@ module _ (f : Format) (answer : Kernel) (ini def : ℕ) (tri2vtx : List ℕ) whe
 
 module _ (f : Format) where
   -- the single kernel's answer for the triangle of three names
-  unfoldable pub answerOf : (vtx2ini vtx2def : List Float) (lambda myu : Float) → Kernel
-  answerOf vtx2ini vtx2def lambda myu i0 i1 i2 = stvkOf f (cornersAt vtx2ini i0 i1 i2) (cornersAt vtx2def i0 i1 i2) lambda myu
+  unfoldable pub answerOf : (vtx2ini vtx2def : List Float) (stiffness : Stiffness) → Kernel
+  answerOf vtx2ini vtx2def stiffness i0 i1 i2 = stvkOf f (cornersAt vtx2ini i0 i1 i2) (cornersAt vtx2def i0 i1 i2) stiffness
 
-  -- THE statement of `wdw`
-  abbrev pub IsSkin : (vtx2ini vtx2def : List Float) (tri2vtx : List ℕ) (lambda myu : Float) (before : List Float) (r : Skin) (after : List Float) → Type 0
-  IsSkin vtx2ini vtx2def tri2vtx lambda myu before r after = IsSkinOver f (answerOf vtx2ini vtx2def lambda myu) (length vtx2ini) (length vtx2def) tri2vtx before r after
+  -- THE statement of `wdw`: of the material the stiffness alone enters
+  abbrev pub IsSkin : (vtx2ini vtx2def : List Float) (tri2vtx : List ℕ) (material : Material) (before : List Float) (r : Skin) (after : List Float) → Type 0
+  IsSkin vtx2ini vtx2def tri2vtx material before r after =
+      IsSkinOver f (answerOf vtx2ini vtx2def (material .stiffness)) (length vtx2ini) (length vtx2def) tri2vtx before r after
+
+  -- why 7 is given: there is a first triangle; its corners and the stiffness's numbers are finite, and the stiffness is none that a sheet can have
+  abbrev pub FirstBad : (vtx2ini vtx2def : List Float) (stiffness : Stiffness) (tri2vtx : List ℕ) → Type 0
+  FirstBad vtx2ini vtx2def stiffness tri2vtx =
+      let i0 = getD tri2vtx 0 0 in
+      let i1 = getD tri2vtx 1 0 in
+      let i2 = getD tri2vtx 2 0 in
+      (2 < length tri2vtx) × (cornersFinite (cornersAt vtx2ini i0 i1 i2) && cornersFinite (cornersAt vtx2def i0 i1 i2) && isFiniteOf stiffness ≡ true) × (isBadOf f stiffness ≡ true)

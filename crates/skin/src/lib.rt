@@ -9,6 +9,7 @@ ghost use Rattle.places.specs.Places.{addedOf};
 ghost use Rattle.places.specs.Space.{pointAt, cornersAt};
 ghost use Rattle.skin.specs.Skin.{badLengthOf, badSumOf, earlyOf, answerOf, IsSkin};
 ghost use Rattle.skin.specs.Parts.{refusedOf};
+use material::Material;
 use refusal::ACCEPTED;
 use refusal::BAD_ANSWER;
 use refusal::BAD_LENGTH;
@@ -74,8 +75,7 @@ fn corners_at(vtx2xyz: &[f64], i0: usize, i1: usize, i2: usize) -> [[f64; 3]; 3]
 fn answer(
     vtx2ini: &[f64],
     vtx2def: &[f64],
-    lambda: f64,
-    myu: f64,
+    material: Material,
     i0: usize,
     i1: usize,
     i2: usize,
@@ -84,11 +84,11 @@ fn answer(
     requires { ⌜ i0 * 3 + 2 < length (now «vtx2ini») ⌝ }
     requires { ⌜ i1 * 3 + 2 < length (now «vtx2ini») ⌝ }
     requires { ⌜ i2 * 3 + 2 < length (now «vtx2ini») ⌝ }
-    ensures { λ r. ⌜ r ≡ answerOf binary64 (now («vtx2ini» .entry)) (now («vtx2def» .entry)) lambda myu i0 i1 i2 ⌝ }
+    ensures { λ r. ⌜ r ≡ answerOf binary64 (now («vtx2ini» .entry)) (now («vtx2def» .entry)) (material .stiffness) i0 i1 i2 ⌝ }
 {
     let p0 = corners_at(vtx2ini, i0, i1, i2);
     let p1 = corners_at(vtx2def, i0, i1, i2);
-    stvk_tri3::wdwddw_(p0, p1, lambda, myu)
+    stvk_tri3::wdwddw_(p0, p1, material)
 }
 
 // A triangle's gradient, to its three names.
@@ -106,12 +106,11 @@ fn add_all(
     vtx2ini: &[f64],
     vtx2def: &[f64],
     tri2vtx: &[usize],
-    lambda: f64,
-    myu: f64,
+    material: Material,
     vtx2dw: &mut [f64],
 ) -> Skin
     requires { ⌜ Clear (earlyOf (length (now «vtx2ini»)) (length (now «vtx2def»)) (now «tri2vtx») (length (now «vtx2dw»))) ⌝ }
-    ensures { λ r. ⌜ IsSkin binary64 (now («vtx2ini» .entry)) (now («vtx2def» .entry)) (now («tri2vtx» .entry)) lambda myu (now («vtx2dw» .entry)) r (now («vtx2dw» .exit)) ⌝ }
+    ensures { λ r. ⌜ IsSkin binary64 (now («vtx2ini» .entry)) (now («vtx2def» .entry)) (now («tri2vtx» .entry)) material (now («vtx2dw» .entry)) r (now («vtx2dw» .exit)) ⌝ }
 {
     lists::clear(vtx2dw);
     let mut w = 0.0;
@@ -120,7 +119,7 @@ fn add_all(
         let i0 = tri2vtx[i];
         let i1 = tri2vtx[i + 1];
         let i2 = tri2vtx[i + 2];
-        let e = answer(vtx2ini, vtx2def, lambda, myu, i0, i1, i2);
+        let e = answer(vtx2ini, vtx2def, material, i0, i1, i2);
         if e.number != ACCEPTED {
             lists::clear(vtx2dw);
             return refused(e.number, i / 3);
@@ -142,16 +141,15 @@ fn add_all(
 }
 
 // The energy of the skin that has the points vtx2ini at rest and vtx2def deformed, and its gradient by the deformed points into vtx2dw, three numbers for each point in all
-// three. Nothing is written before every name is looked at.
+// three. Of the material the stiffness alone enters. Nothing is written before every name is looked at.
 pub fn wdw(
     vtx2ini: &[f64],
     vtx2def: &[f64],
     tri2vtx: &[usize],
-    lambda: f64,
-    myu: f64,
+    material: Material,
     vtx2dw: &mut [f64],
 ) -> Skin
-    ensures { λ r. ⌜ IsSkin binary64 (now («vtx2ini» .entry)) (now («vtx2def» .entry)) (now («tri2vtx» .entry)) lambda myu (now («vtx2dw» .entry)) r (now («vtx2dw» .exit)) ⌝ }
+    ensures { λ r. ⌜ IsSkin binary64 (now («vtx2ini» .entry)) (now («vtx2def» .entry)) (now («tri2vtx» .entry)) material (now («vtx2dw» .entry)) r (now («vtx2dw» .exit)) ⌝ }
 {
     if bad_length(vtx2ini.len(), vtx2def.len(), tri2vtx.len(), vtx2dw.len()) {
         return refused(BAD_LENGTH, 0);
@@ -159,5 +157,5 @@ pub fn wdw(
     if !refusal::names_below(tri2vtx, vtx2ini.len() / 3) {
         return refused(BAD_NAME, 0);
     }
-    add_all(vtx2ini, vtx2def, tri2vtx, lambda, myu, vtx2dw)
+    add_all(vtx2ini, vtx2def, tri2vtx, material, vtx2dw)
 }

@@ -3,11 +3,12 @@ ghost use mathlib.Core.Path.{_≡_};
 ghost use lib.Ieee.{binary64};
 ghost use Rattle.stvk_tri3.specs.GreenLagrange.{IsGreenLagrange};
 ghost use Rattle.stvk_tri3.specs.Strain.{testedOf, strainOf, IsStrain};
-ghost use Rattle.stvk_tri3.specs.Stvk.{badInputOf, IsStvk};
+ghost use Rattle.stvk_tri3.specs.Stvk.{IsStvk};
 use corners::plane;
 use corners::space;
 use del_geo_core::tri2::Tri2;
 use del_geo_core::tri3::Tri3;
+use material::Material;
 use refusal::Energy;
 use refusal::Tests;
 use strain::Rest;
@@ -75,31 +76,22 @@ pub fn wdw_green_lagrange(p_ini: [[f64; 2]; 3], p_def: [[f64; 3]; 3]) -> Strain
     answer(refusal::kernel(tests), values)
 }
 
-fn bad_input(p0: Tri3, p1: Tri3, lambda: f64, myu: f64) -> bool
-    ensures { λ r. ⌜ r ≡ badInputOf p0 p1 lambda myu ⌝ }
-{
-    !(space::is_finite(p0)
-        & space::is_finite(p1)
-        & float::is_finite(lambda)
-        & float::is_finite(myu))
-}
-
-// The StVK energy of a sheet that has the corners p0 at rest and p1 deformed, with its gradient and Hessian by p1. No thickness enters.
-pub fn wdwddw_(p0: [[f64; 3]; 3], p1: [[f64; 3]; 3], lambda: f64, myu: f64) -> Energy
-    ensures { λ r. ⌜ IsStvk binary64 p0 p1 lambda myu r ⌝ }
+// The StVK energy of a sheet that has the corners p0 at rest and p1 deformed, with its gradient and Hessian by p1. Of the material the stiffness alone enters.
+pub fn wdwddw_(p0: [[f64; 3]; 3], p1: [[f64; 3]; 3], material: Material) -> Energy
+    ensures { λ r. ⌜ IsStvk binary64 p0 p1 material r ⌝ }
 {
     let p0 = space::corners(p0);
     let p1 = space::corners(p1);
-    let s = stvk::state_of(p0, p1, lambda, myu);
+    let stiffness = material.stiffness;
+    let lame = stiffness.lame();
+    let s = stvk::state_of(p0, p1, lame.lambda, lame.myu);
     let w = stvk::w(s);
     let dw = stvk::dw(s);
     let ddw = stvk::ddw(s);
-    let tests = Tests {
-        bad_input: bad_input(p0, p1, lambda, myu),
-        bad_stiffness: false,
-        turned: false,
-        zero_divisor: refusal::zero_divisor(s.rest.gd0_z.by, s.rest.gu0.x.by, s.rest.gu0.y.by),
-        bad_answer: refusal::bad_energy(w, dw, ddw),
-    };
+    let tests = stiffness.tests(
+        space::is_finite(p0) & space::is_finite(p1),
+        refusal::zero_divisor(s.rest.gd0_z.by, s.rest.gu0.x.by, s.rest.gu0.y.by),
+        refusal::bad_energy(w, dw, ddw),
+    );
     refusal::answer_energy(refusal::kernel(tests), w, dw, ddw)
 }

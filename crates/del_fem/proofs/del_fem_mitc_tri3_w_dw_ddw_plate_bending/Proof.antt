@@ -6,4 +6,5 @@ pub del-fem-mitc-tri3-w-dw-ddw-plate-bending-spec : {M : Type 1} → statement M
 del-fem-mitc-tri3-w-dw-ddw-plate-bending-spec = tie.close (tie.spec
     (λ c κs. tt)
     (λ c κs. tt)
-    (λ c. rw (c .before .before .w-dw-ddw-plate-bending .ensures) at (c .put-energy .ensures)))
+    (λ c κs. tt)
+    (λ c. let answer = c .before .before in rw (answer .w-dw-ddw-plate-bending .ensures, answer .before .before .before .of-words .ensures) at (c .put-energy .ensures)))

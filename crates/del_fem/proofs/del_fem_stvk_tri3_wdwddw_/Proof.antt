@@ -6,4 +6,5 @@ pub del-fem-stvk-tri3-wdwddw--spec : {M : Type 1} → statement M
 del-fem-stvk-tri3-wdwddw--spec = tie.close (tie.spec
     (λ c κs. tt)
     (λ c κs. tt)
-    (λ c. rw (c .before .before .wdwddw- .ensures) at (c .put-energy .ensures)))
+    (λ c κs. tt)
+    (λ c. let answer = c .before .before in rw (answer .wdwddw- .ensures, answer .before .before .before .of-words .ensures) at (c .put-energy .ensures)))

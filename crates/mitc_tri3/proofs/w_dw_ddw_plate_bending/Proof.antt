@@ -1,11 +1,11 @@
 -- `w_dw_ddw_plate_bending` meets its contract: what its calls ensure, put in one after the other, is the definition.
-use Rattle.plate.specs.Plate.{wDwDdwPlateBendingOf}
+use Rattle.plate.specs.Plate.{stateOf, wDwDdwPlateBendingOf}
 use Rattle.mitc_tri3.specs.Plate.{testsOf, plateOf}
 use Rattle.mitc_tri3.proofs.w_dw_ddw_plate_bending.Statement.{statement}
 use Rattle.mitc_tri3.proofs.w_dw_ddw_plate_bending.Tie as tie
 
 pub w-dw-ddw-plate-bending-spec : {M : Type 1} → statement M
-unfolding wDwDdwPlateBendingOf testsOf plateOf
+unfolding stateOf wDwDdwPlateBendingOf testsOf plateOf
 w-dw-ddw-plate-bending-spec = tie.close (tie.spec
     (λ c κs. tt)
     (λ c κs. tt)
@@ -18,7 +18,28 @@ w-dw-ddw-plate-bending-spec = tie.close (tie.spec
     (λ c κs. tt)
     (λ c κs. tt)
     (λ c κs. tt)
-    (λ c. let c10 = c .before in let c9 = c10 .before in let c8 = c9 .before in let c7 = c8 .before in let c6 = c7 .before in let c5 = c6 .before in
-    let c4 = c5 .before in let c3 = c4 .before in let c2 = c3 .before in
-    rw (c .answer-energy .ensures, c10 .kernel .ensures, c9 .bad-energy .ensures, c8 .zero-divisor .ensures, c7 .bad-input .ensures)
-    (rw (c6 .ddw .ensures, c5 .dw .ensures, c4 .w .ensures, c3 .state-of .ensures, c2 .corners2 .ensures, c2 .before .corners .ensures))))
+    (λ c κs. tt)
+    (λ c κs. tt)
+    (λ c κs. tt)
+    (λ c κs. tt)
+    (λ c. let number = c .before in let tests = number .before in let answer = tests .before in let divisor = answer .before in let finite3 = divisor .before in
+    let finite2 = finite3 .before in let finite1 = finite2 .before in let ddw = finite1 .before in let dw = ddw .before in let w = dw .before in let s = w .before in
+    let lame = s .before in let u = lame .before in
+    rw (
+      c .answer-energy .ensures,
+      number .kernel .ensures,
+      tests .tests .ensures,
+      answer .bad-energy .ensures,
+      divisor .zero-divisor .ensures,
+      finite3 .is-finite3 .ensures,
+      finite2 .is-finite2 .ensures,
+      finite1 .is-finite .ensures,
+    ) (rw (
+      ddw .ddw .ensures,
+      dw .dw .ensures,
+      w .w .ensures,
+      s .state-of .ensures,
+      lame .lame .ensures,
+      u .corners2 .ensures,
+      u .before .corners .ensures,
+    ))))

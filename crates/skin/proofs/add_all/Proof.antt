@@ -12,8 +12,8 @@ use Rattle.skin.proofs.add_all.Tie as tie
 
 pub add-all-spec : {M : Type 1} → statement M
 add-all-spec = tie.close (tie.spec
-    (λ ini def tri lambda myu dw₀ w₀ i₀ dw w i. Left binary64 (answerOf binary64 ini def lambda myu) tri dw₀ i w dw)
-    (λ ini def tri lambda myu dw₀ w₀ i₀ dw w i. length tri - i)
+    (λ ini def tri material dw₀ w₀ i₀ dw w i. Left binary64 (answerOf binary64 ini def (material .stiffness)) tri dw₀ i w dw)
+    (λ ini def tri material dw₀ w₀ i₀ dw w i. length tri - i)
     (λ c κs. tt)
     (λ c. start binary64 _ _ _ (sized _ _ _ _ (c .before .before .before .before .before .before .before .before .pre .0) .0))
     (λ c. omega arith)
@@ -31,7 +31,7 @@ add-all-spec = tie.close (tie.spec
     (λ c. omega arith)
     (λ c. let again = c .before .before .before in let test = again .before .before in let call = test .before .before in let l = call .before .before .before .before .before in
     let s = l .before .before .before .before .before .before .before .before .before in
-    rw (c .refused .ensures) (refused-here binary64 _ _ _ _ (s .args .vtx2dw .now) (s .pre) (stvk-above binary64 _ _ _ _) (l .loop .vtx2dw) (omega arith)
+    rw (c .refused .ensures) (refused-here binary64 _ _ _ _ (s .args .vtx2dw .now) (s .pre) (stvk-above binary64 _ _ _) (l .loop .vtx2dw) (omega arith)
     (again .clear2 .ensures) (l .loop .i) (l .loop .inv .whole) (omega arith) (call .answer .ensures) (test .if1 .taken) (l .loop .inv .passed)))
     (λ c κs. tt)
     (λ c. omega arith)
@@ -46,7 +46,7 @@ add-all-spec = tie.close (tie.spec
     (λ c. let again = c .before .before .before in let test = again .before .before in let l = test .before .before .before .before in let clear = l .before .before .before in
     let s = clear .before .before .before .before .before .before in
     rw (c .refused2 .ensures) (sum-refused binary64 _ _ _ _ (s .args .vtx2dw .now) (s .pre) (l .loop .inv) (omega arith) (omega arith) (clear .clear .ensures)
-    (stvk-above binary64 _ _ _ _) (sym (test .before .bad-sum .ensures) ∙ test .if2 .taken) (again .clear3 .ensures)))
+    (stvk-above binary64 _ _ _) (sym (test .before .bad-sum .ensures) ∙ test .if2 .taken) (again .clear3 .ensures)))
     (λ c. omega arith)
     (λ c. let l = c .before .before .before .before in let clear = l .before .before .before in let s = clear .before .before .before .before .before .before in
     all-accepted binary64 _ _ _ _ (s .args .vtx2dw .now) (s .pre) (l .loop .inv) (omega arith) (omega arith) (clear .clear .ensures)
