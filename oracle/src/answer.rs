@@ -53,7 +53,7 @@ pub fn answer(record: &Record) -> Answer {
         ),
         record::MASSES => masses::answer(&record.words),
         record::SKIN => skin::answer(&record.words),
-        kind => kernels::answer(kind, &numbers_of(&record.words)),
+        _ => kernels::of_record(record),
     }
 }
 

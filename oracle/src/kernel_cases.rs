@@ -1,12 +1,14 @@
 //! Inputs of the kernels.
 
 use crate::kernels;
+use crate::material::{Material, Stiffness};
+use crate::material_cases::{drawn_unused, either, lame};
 use crate::numbers::{self, moved};
 use crate::random::Random;
 use crate::record::{Record, BENDING, GREEN_LAGRANGE, PLATE, STRAIN, STVK};
 
-/// Corners at rest come first, then what is known of them deformed, then the
-/// single numbers.
+/// What the original takes: corners at rest come first, then what is known of them
+/// deformed, then the single numbers.
 pub struct Layout {
     kind: u64,
     dimensions: usize,
@@ -33,28 +35,90 @@ pub fn layout(kind: u64) -> Layout {
 }
 
 impl Layout {
-    fn rest(&self) -> usize {
+    pub fn rest(&self) -> usize {
         self.dimensions * self.corners
     }
 
-    fn inputs(&self) -> usize {
+    pub fn inputs(&self) -> usize {
         self.rest() + self.deformed + self.singles
     }
 
-    fn record(&self, inputs: &[f64]) -> Record {
+    /// The original's inputs as a record, `unused` for what the kernel does not look at.
+    pub fn record(&self, inputs: &[f64], unused: [f64; 2]) -> Record {
+        if self.singles == 0 {
+            return Record::of_numbers(self.kind, inputs);
+        }
+        self.case(inputs).with_unused(unused).record()
+    }
+
+    /// The single numbers as a material.
+    pub fn case(&self, inputs: &[f64]) -> Case {
         assert_eq!(inputs.len(), self.inputs());
-        Record::of_numbers(self.kind, inputs)
+        let (corners, singles) = inputs.split_at(self.rest() + self.deformed);
+        let (thickness, pair) = match *singles {
+            [lambda, myu] => (f64::NAN, [lambda, myu]),
+            [thickness, lambda, myu] => (thickness, [lambda, myu]),
+            _ => unreachable!("no material"),
+        };
+        Case {
+            kind: self.kind,
+            corners: corners.to_vec(),
+            material: Material {
+                density: f64::NAN,
+                thickness,
+                stiffness: lame(pair),
+            },
+        }
     }
 }
 
+/// A call of StVK or of the plate.
+#[derive(Clone)]
+pub struct Case {
+    pub kind: u64,
+    pub corners: Vec<f64>,
+    pub material: Material,
+}
+
+impl Case {
+    pub fn with_stiffness(mut self, stiffness: Stiffness) -> Case {
+        self.material.stiffness = stiffness;
+        self
+    }
+
+    /// A density, and for StVK a thickness.
+    pub fn with_unused(mut self, [density, thickness]: [f64; 2]) -> Case {
+        self.material.density = density;
+        if self.kind == STVK {
+            self.material.thickness = thickness;
+        }
+        self
+    }
+
+    pub fn record(&self) -> Record {
+        Record::of_corners(self.kind, &self.corners, &self.material)
+    }
+}
+
+/// Where there is a material, half have Young's modulus.
 pub fn generated(kind: u64, random: &mut Random) -> Record {
     let layout = layout(kind);
-    let inputs = if random.percent(68) {
+    let inputs = drawn(random, &layout);
+    if layout.singles == 0 {
+        return Record::of_numbers(kind, &inputs);
+    }
+    let case = layout.case(&inputs).with_unused(drawn_unused(random));
+    let stiffness = either(random, case.material.stiffness.given());
+    case.with_stiffness(stiffness).record()
+}
+
+/// Inputs of the original.
+pub fn drawn(random: &mut Random, layout: &Layout) -> Vec<f64> {
+    if random.percent(68) {
         tame(random, layout.inputs())
     } else {
-        boundary(random, &layout)
-    };
-    layout.record(&inputs)
+        boundary(random, layout)
+    }
 }
 
 fn tame(random: &mut Random, count: usize) -> Vec<f64> {
@@ -171,9 +235,9 @@ fn scales_apart(random: &mut Random, layout: &Layout) -> Vec<f64> {
 }
 
 /// Tame inputs over the given rest corners.
-pub fn over(random: &mut Random, layout: &Layout, rest: &[f64]) -> Record {
+pub fn over(random: &mut Random, layout: &Layout, rest: &[f64]) -> Vec<f64> {
     let others = tame(random, layout.inputs() - rest.len());
-    layout.record(&[rest, &others].concat())
+    [rest, &others].concat()
 }
 
 /// Rest corners with the edges (a, 0) and (0, b) from corner 0; the bending
@@ -186,9 +250,9 @@ pub fn right_angle(layout: &Layout, a: f64, b: f64) -> Vec<f64> {
     }
 }
 
-/// A record whose zero divisors are exactly those at `places`; found by
+/// Inputs whose zero divisors are exactly those at `places`; found by
 /// drawing rest corners that nearly lie on a line.
-pub fn with_zero_divisors(random: &mut Random, layout: &Layout, places: &[usize]) -> Record {
+pub fn with_zero_divisors(random: &mut Random, layout: &Layout, places: &[usize]) -> Vec<f64> {
     loop {
         let inputs = nearly_collinear(random, layout);
         let divisors = kernels::divisors(layout.kind, &inputs);
@@ -196,14 +260,14 @@ pub fn with_zero_divisors(random: &mut Random, layout: &Layout, places: &[usize]
             .filter(|i| divisors[*i] == 0.0)
             .collect();
         if zeros == places {
-            return layout.record(&inputs);
+            return inputs;
         }
     }
 }
 
-/// A record of an energy whose value at `place` alone is infinite: one where it
+/// Inputs of an energy whose value at `place` alone is infinite: one where it
 /// is the largest by far, with stiffnesses raised until it overflows.
-pub fn with_one_infinite(random: &mut Random, layout: &Layout, place: usize) -> Record {
+pub fn with_one_infinite(random: &mut Random, layout: &Layout, place: usize) -> Vec<f64> {
     let refusal = |inputs: &[f64]| kernels::answer(layout.kind, inputs).number;
     loop {
         let inputs = numbers::similar(random, layout.inputs(), 2, 5);
@@ -216,12 +280,12 @@ pub fn with_one_infinite(random: &mut Random, layout: &Layout, place: usize) -> 
         let below = stiffer(&inputs, f64::MAX / top * 0.95);
         let above = stiffer(&inputs, f64::MAX / top * 1.05);
         if (refusal(&below), refusal(&above)) == (0, 5) {
-            return layout.record(&above);
+            return above;
         }
     }
 }
 
-/// The two Lame parameters, which come last, times a factor.
+/// The two Lamé parameters, which come last, times a factor.
 fn stiffer(inputs: &[f64], factor: f64) -> Vec<f64> {
     let (others, lame) = inputs.split_at(inputs.len() - 2);
     [others.to_vec(), vec![lame[0] * factor, lame[1] * factor]].concat()

@@ -1,8 +1,10 @@
 //! The fixed sample of the kernels: chosen inputs, then drawn ones.
 
 use crate::kernel_cases::{
-    generated, layout, over, right_angle, with_one_infinite, with_zero_divisors, Layout,
+    drawn, layout, over, right_angle, with_one_infinite, with_zero_divisors, Layout,
 };
+use crate::material_cases::unused;
+use crate::material_samples;
 use crate::numbers::{self, power, scaled};
 use crate::random::Random;
 use crate::record::{Record, BENDING, GREEN_LAGRANGE, PLATE, STRAIN, STVK};
@@ -13,17 +15,19 @@ const DRAWN: usize = 330;
 pub fn sample(kind: u64) -> Vec<Record> {
     let layout = layout(kind);
     let mut random = Random::of(kind);
-    let mut records = Vec::new();
-    records.extend(
-        chosen(kind)
-            .iter()
-            .map(|inputs| Record::of_numbers(kind, inputs)),
-    );
-    records.extend(at_edges(&mut random, &layout));
-    records.extend(zero_divisors(kind, &mut random, &layout));
-    records.extend(one_infinite(kind, &mut random, &layout));
-    records.extend(each_input_special(kind));
-    records.extend((0..DRAWN).map(|_| generated(kind, &mut random)));
+    let mut cases = chosen(kind);
+    cases.extend(at_edges(&mut random, &layout));
+    cases.extend(zero_divisors(kind, &mut random, &layout));
+    cases.extend(one_infinite(kind, &mut random, &layout));
+    cases.extend(each_input_special(kind));
+    cases.extend((0..DRAWN).map(|_| drawn(&mut random, &layout)));
+    let places = cases.iter().enumerate();
+    let mut records: Vec<Record> = places
+        .map(|(i, inputs)| layout.record(inputs, unused(i)))
+        .collect();
+    if kind == STVK || kind == PLATE {
+        records.extend(material_samples::kernel(kind));
+    }
     records
 }
 
@@ -199,12 +203,12 @@ const EDGES: [i32; 18] = [
 
 /// Right angles of every size at which an area, a norm or a square goes over
 /// or under, and pairs of a large and a small edge.
-fn at_edges(random: &mut Random, layout: &Layout) -> Vec<Record> {
-    let mut records = Vec::new();
+fn at_edges(random: &mut Random, layout: &Layout) -> Vec<Vec<f64>> {
+    let mut cases = Vec::new();
     for e in EDGES {
         let h = power(e);
         for (a, b) in [(h, h), (-h, h), (h, -h)] {
-            records.push(over(random, layout, &right_angle(layout, a, b)));
+            cases.push(over(random, layout, &right_angle(layout, a, b)));
         }
     }
     for (a, b) in [
@@ -214,7 +218,7 @@ fn at_edges(random: &mut Random, layout: &Layout) -> Vec<Record> {
         (1000, -1000),
         (-1000, 1000),
     ] {
-        records.push(over(
+        cases.push(over(
             random,
             layout,
             &right_angle(layout, power(a), power(b)),
@@ -222,27 +226,27 @@ fn at_edges(random: &mut Random, layout: &Layout) -> Vec<Record> {
     }
     for e in [999, 1000, 1001] {
         let (a, b) = (scaled(random, e), scaled(random, e));
-        records.push(over(random, layout, &right_angle(layout, a, b)));
+        cases.push(over(random, layout, &right_angle(layout, a, b)));
     }
-    records
+    cases
 }
 
 /// Divisors that vanish while the others do not; for bending and the strains
 /// the chosen cases and the edges hold such.
-fn zero_divisors(kind: u64, random: &mut Random, layout: &Layout) -> Vec<Record> {
+fn zero_divisors(kind: u64, random: &mut Random, layout: &Layout) -> Vec<Vec<f64>> {
     let groups: &[&[usize]] = match kind {
         STVK => &[&[1], &[2], &[3]],
         PLATE => &[&[2], &[3], &[4], &[2, 3, 4]],
         _ => &[],
     };
     let twice = groups.iter().flat_map(|places| [places, places]);
-    let mut records: Vec<Record> = twice
+    let mut cases: Vec<Vec<f64>> = twice
         .map(|places| with_zero_divisors(random, layout, places))
         .collect();
     if kind == PLATE {
-        records.push(Record::of_numbers(kind, &negative_zero_dot()));
+        cases.push(negative_zero_dot());
     }
-    records
+    cases
 }
 
 /// A plate whose first dot is -0 by underflow while the others are no zeros.
@@ -252,7 +256,7 @@ fn negative_zero_dot() -> Vec<f64> {
 }
 
 /// The energy alone, a gradient's entry alone or the last entry alone overflows.
-fn one_infinite(kind: u64, random: &mut Random, layout: &Layout) -> Vec<Record> {
+fn one_infinite(kind: u64, random: &mut Random, layout: &Layout) -> Vec<Vec<f64>> {
     let places: &[usize] = if kind == STVK || kind == PLATE {
         &[0, 1, 90]
     } else {
@@ -265,7 +269,7 @@ fn one_infinite(kind: u64, random: &mut Random, layout: &Layout) -> Vec<Record> 
 }
 
 /// Each input in turn infinite or NaN over an accepted case.
-fn each_input_special(kind: u64) -> Vec<Record> {
+fn each_input_special(kind: u64) -> Vec<Vec<f64>> {
     let accepted = original(kind);
     let bad = [
         f64::NEG_INFINITY,
@@ -276,11 +280,8 @@ fn each_input_special(kind: u64) -> Vec<Record> {
         .map(|place| {
             let mut inputs = accepted.clone();
             inputs[place] = bad[place % bad.len()];
-            Record::of_numbers(kind, &inputs)
+            inputs
         })
-        .chain((0..3).map(|i| {
-            let inputs = numbers::list(accepted.len(), || bad[i]);
-            Record::of_numbers(kind, &inputs)
-        }))
+        .chain((0..3).map(|i| numbers::list(accepted.len(), || bad[i])))
         .collect()
 }

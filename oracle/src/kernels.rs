@@ -1,10 +1,11 @@
 //! The four kernels of the original files and the book's strain, with the refusals
-//! that a traced run of the same text shows.
+//! that the inputs, the material and a traced run of the same text show.
 
 use crate::answer::{word, Answer};
 use crate::green_lagrange::wdw_green_lagrange;
 use crate::helpers::points;
-use crate::record;
+use crate::material::Material;
+use crate::record::{self, numbers_of, Record, PLATE_CORNERS, STVK_CORNERS};
 use crate::traced::{self, Traced};
 use del_fem_cpu::{mitc_tri3, quadratic_bending, stvk_tri3};
 use num_traits::{AsPrimitive, Float};
@@ -15,29 +16,87 @@ pub trait Number: Float + AddAssign + MulAssign + 'static {}
 impl Number for f64 {}
 impl Number for Traced {}
 
+/// A call: the numbers that 3 looks at, whether 7 has no cause, and what the original
+/// is run on.
+pub struct Call {
+    pub given: Vec<f64>,
+    pub admitted: bool,
+    pub inputs: Vec<f64>,
+}
+
+impl Call {
+    /// Of a kernel without a material, or with the plate's thickness and a Lamé pair behind
+    /// the corners.
+    fn plain(inputs: &[f64]) -> Call {
+        Call {
+            given: inputs.to_vec(),
+            admitted: true,
+            inputs: inputs.to_vec(),
+        }
+    }
+
+    pub fn of(record: &Record) -> Call {
+        let corners = match record.kind {
+            record::STVK => STVK_CORNERS,
+            record::PLATE => PLATE_CORNERS,
+            _ => return Call::plain(&numbers_of(&record.words)),
+        };
+        let (corners, material) = record.words.split_at(corners);
+        Call::with_material(record.kind, &numbers_of(corners), &Material::read(material))
+    }
+
+    /// The plate uses thickness and stiffness, StVK the stiffness.
+    fn with_material(kind: u64, corners: &[f64], material: &Material) -> Call {
+        let thickness: &[f64] = match kind {
+            record::PLATE => &[material.thickness],
+            _ => &[],
+        };
+        let before = [corners, thickness].concat();
+        let stiffness = material.stiffness;
+        Call {
+            given: [&before[..], &stiffness.given()].concat(),
+            admitted: stiffness.admitted(),
+            inputs: [&before[..], &stiffness.lame()].concat(),
+        }
+    }
+}
+
 pub fn answer(kind: u64, inputs: &[f64]) -> Answer {
+    answer_of(kind, &Call::plain(inputs))
+}
+
+pub fn with_material(kind: u64, corners: &[f64], material: &Material) -> Answer {
+    answer_of(kind, &Call::with_material(kind, corners, material))
+}
+
+pub fn of_record(record: &Record) -> Answer {
+    answer_of(record.kind, &Call::of(record))
+}
+
+fn answer_of(kind: u64, call: &Call) -> Answer {
     match kind {
-        record::BENDING => judge(inputs, bending, bending),
-        record::STRAIN => judge(inputs, strain, strain),
-        record::STVK => judge(inputs, stvk, stvk),
-        record::PLATE => judge(inputs, plate, plate),
-        record::GREEN_LAGRANGE => judge(inputs, green_lagrange, green_lagrange),
+        record::BENDING => judge(call, bending, bending),
+        record::STRAIN => judge(call, strain, strain),
+        record::STVK => judge(call, stvk, stvk),
+        record::PLATE => judge(call, plate, plate),
+        record::GREEN_LAGRANGE => judge(call, green_lagrange, green_lagrange),
         _ => unreachable!("the reader lets no other kind through"),
     }
 }
 
 fn judge(
-    inputs: &[f64],
+    call: &Call,
     plain: impl Fn(&[f64]) -> Vec<f64>,
     traced: impl Fn(&[Traced]) -> Vec<Traced>,
 ) -> Answer {
+    let inputs = &call.inputs;
     let values = plain(inputs);
     let (seen, divisors) = trace(inputs, traced);
     assert!(
         same(&values, &seen),
         "the traced run of {inputs:?} differs from the plain one"
     );
-    let number = number(inputs, &divisors, &values);
+    let number = number(call, &divisors, &values);
     let values = if number == 0 {
         values
     } else {
@@ -54,15 +113,18 @@ fn trace(inputs: &[f64], traced: impl Fn(&[Traced]) -> Vec<Traced>) -> (Vec<f64>
 
 /// What the routine divides by, in its order.
 pub fn divisors(kind: u64, inputs: &[f64]) -> Vec<f64> {
-    let (_, divisors) = match kind {
+    values_and_divisors(kind, inputs).1
+}
+
+pub fn values_and_divisors(kind: u64, inputs: &[f64]) -> (Vec<f64>, Vec<f64>) {
+    match kind {
         record::BENDING => trace(inputs, bending),
         record::STRAIN => trace(inputs, strain),
         record::STVK => trace(inputs, stvk),
         record::PLATE => trace(inputs, plate),
         record::GREEN_LAGRANGE => trace(inputs, green_lagrange),
         _ => unreachable!("no kernel"),
-    };
-    divisors
+    }
 }
 
 pub fn same(a: &[f64], b: &[f64]) -> bool {
@@ -73,9 +135,11 @@ pub fn finite(numbers: &[f64]) -> bool {
     numbers.iter().all(|x| x.is_finite())
 }
 
-fn number(inputs: &[f64], divisors: &[f64], values: &[f64]) -> u64 {
-    if !finite(inputs) {
+fn number(call: &Call, divisors: &[f64], values: &[f64]) -> u64 {
+    if !finite(&call.given) {
         3
+    } else if !call.admitted {
+        7
     } else if divisors.contains(&0.0) {
         4
     } else if !finite(values) {

@@ -3,9 +3,19 @@
 
 use crate::answer::word;
 use crate::masses::masses;
+use crate::material::{Material, Stiffness};
 use crate::skin::skin;
 
 const VERTICES: u64 = 65_536;
+
+const MATERIAL: Material = Material {
+    density: 2.0,
+    thickness: 1.0,
+    stiffness: Stiffness::Lame {
+        lambda: 1.0,
+        myu: 2.0,
+    },
+};
 
 /// How many coordinates, names and places of the buffer, and the last name.
 const PANELS: [(usize, usize, usize, u64); 7] = [
@@ -45,8 +55,7 @@ fn panel_line((coordinates, names, places, last): (usize, usize, usize, u64)) ->
     let answer = masses(
         &tri2vtx(names, last),
         &squares(0, coordinates),
-        1.0,
-        2.0,
+        &MATERIAL,
         &buffer,
     );
     let (number, sum) = (answer.number, sum(&answer.values));
@@ -60,7 +69,7 @@ fn skin_line((ini, def, names, places, last): (usize, usize, usize, usize, u64))
         &squares(0, ini),
         &squares(3, def),
         &tri2vtx(names, last),
-        [1.0, 2.0],
+        &MATERIAL,
         &buffer,
     );
     let (w, dw) = (word(answer.values[0]), sum(&answer.values[1..]));

@@ -13,7 +13,13 @@ mod kernel_samples;
 mod kernels;
 mod limits;
 mod mass_cases;
+mod mass_samples;
 mod masses;
+mod material;
+mod material_cases;
+mod material_samples;
+#[cfg(test)]
+mod material_tests;
 mod numbers;
 mod random;
 mod record;
@@ -144,7 +150,7 @@ fn sample(kind: u64) -> Vec<Record> {
     match kind {
         record::ROOT => roots::sample(),
         record::HELPER => helper_cases::sample(),
-        record::MASSES => mass_cases::sample(),
+        record::MASSES => mass_samples::sample(),
         record::SKIN => skin_samples::sample(),
         kernel => kernel_samples::sample(kernel),
     }
@@ -160,16 +166,20 @@ fn generated(kind: u64, random: &mut Random) -> Record {
     }
 }
 
-/// The routine's number, how many calls, and 24 numbers, the inputs first. A
+/// The routine's number, how many calls, and 24 words, the inputs first. A
 /// kind that `speed` does not know stands for calls of nothing.
 fn run_of(kind: u64, count: u64) -> Record {
     let mut inputs = match kind {
-        record::ROOT => vec![2.0],
+        record::ROOT => record::words_of(&[2.0]),
         record::MASSES | record::SKIN | record::HELPER => Vec::new(),
-        kernel => kernel_samples::original(kernel),
+        kernel => {
+            let layout = kernel_cases::layout(kernel);
+            let original = kernel_samples::original(kernel);
+            layout.record(&original, [1.7, 0.3]).words
+        }
     };
-    inputs.resize(24, 0.0);
-    let words = [vec![count], record::words_of(&inputs)].concat();
+    inputs.resize(24, 0);
+    let words = [vec![count], inputs].concat();
     Record { kind, words }
 }
 

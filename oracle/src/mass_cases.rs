@@ -1,10 +1,10 @@
 //! Inputs of the masses.
 
-use crate::numbers::{self, power};
+use crate::material::{Material, Stiffness};
+use crate::material_cases::{drawn_unused, either, lame};
+use crate::numbers;
 use crate::random::Random;
 use crate::record::{words_of, Record, MASSES};
-
-const DRAWN: usize = 420;
 
 /// Vertices in a row of a grid.
 const ROW: u64 = 256;
@@ -29,33 +29,41 @@ pub const LARGE: Size = Size {
 
 /// A panel as lent to the routine, the mass buffer on entry included.
 #[derive(Clone)]
-struct Panel {
-    coordinates: Vec<f64>,
-    names: Vec<u64>,
-    buffer: Vec<f64>,
-    thick: f64,
-    rho: f64,
+pub struct Panel {
+    pub coordinates: Vec<f64>,
+    pub names: Vec<u64>,
+    pub buffer: Vec<f64>,
+    pub material: Material,
 }
 
 impl Panel {
-    /// A buffer of the right length that is full of numbers to be overwritten.
-    fn of(coordinates: &[f64], names: &[u64], thick: f64, rho: f64) -> Panel {
+    /// A buffer of the right length that is full of numbers to be overwritten, and a
+    /// stiffness that masses do not use.
+    pub fn of(coordinates: &[f64], names: &[u64], thick: f64, rho: f64) -> Panel {
         let entries = coordinates.len() / 2 * 3;
         let buffer = (0..entries).map(|i| i as f64 - 1.5).collect();
         Panel {
             coordinates: coordinates.to_vec(),
             names: names.to_vec(),
             buffer,
-            thick,
-            rho,
+            material: Material {
+                density: rho,
+                thickness: thick,
+                stiffness: lame([f64::NAN; 2]),
+            },
         }
     }
 
-    fn record(&self) -> Record {
+    pub fn with_stiffness(mut self, stiffness: Stiffness) -> Panel {
+        self.material.stiffness = stiffness;
+        self
+    }
+
+    pub fn record(&self) -> Record {
         let lengths = [self.coordinates.len(), self.names.len(), self.buffer.len()];
         let words = [
             lengths.map(|length| length as u64).to_vec(),
-            words_of(&[self.thick, self.rho]),
+            self.material.words().to_vec(),
             words_of(&self.coordinates),
             self.names.clone(),
             words_of(&self.buffer),
@@ -67,18 +75,20 @@ impl Panel {
     }
 }
 
-/// One in ten is drawn large.
+/// One in ten is drawn large, half have Young's modulus.
 pub fn generated(random: &mut Random) -> Record {
     let size = if random.percent(10) { LARGE } else { SMALL };
-    drawn(random, size)
+    let panel = drawn(random, size);
+    let pair = drawn_unused(random);
+    panel.with_stiffness(either(random, pair)).record()
 }
 
-fn drawn(random: &mut Random, size: Size) -> Record {
+pub fn drawn(random: &mut Random, size: Size) -> Panel {
     let mut panel = tame(random, size);
     if random.percent(30) {
         disturb(random, &mut panel);
     }
-    panel.record()
+    panel
 }
 
 fn tame(random: &mut Random, size: Size) -> Panel {
@@ -109,9 +119,9 @@ fn disturb(random: &mut Random, panel: &mut Panel) {
         2 => _ = panel.names.pop(),
         3 => panel.names.push(0),
         4 => rename(random, panel),
-        5 => panel.thick = numbers::special(random),
-        6 => panel.rho = numbers::special(random),
-        7 => panel.thick = numbers::wild(random),
+        5 => panel.material.thickness = numbers::special(random),
+        6 => panel.material.density = numbers::special(random),
+        7 => panel.material.thickness = numbers::wild(random),
         8 => panel.buffer.fill_with(|| numbers::any(random)),
         _ => spoil(random, panel),
     }
@@ -174,9 +184,14 @@ pub fn run_of(triangles: u64, count: u64, unnamed: &[f64]) -> Record {
     let grid = grid(triangles).flatten();
     let coordinates: Vec<f64> = unnamed.iter().copied().chain(grid).collect();
     let names = grid_names(triangles, unnamed.len() as u64 / 2);
+    let material = Material {
+        density: 1.7,
+        thickness: 0.3,
+        stiffness: lame([1.3, 1.9]),
+    };
     let words = [
         vec![count, coordinates.len() as u64, names.len() as u64],
-        words_of(&[0.3, 1.7]),
+        material.words().to_vec(),
         words_of(&coordinates),
         names,
     ];
@@ -184,169 +199,4 @@ pub fn run_of(triangles: u64, count: u64, unnamed: &[f64]) -> Record {
         kind: MASSES,
         words: words.concat(),
     }
-}
-
-const POINTS: [f64; 8] = [0.0, 0.0, 6.0, 0.0, 0.0, 6.0, 6.0, 6.0];
-
-pub fn sample() -> Vec<Record> {
-    let mut random = Random::of(MASSES);
-    let panels = [examples(), lengths(), far(), not_finite(), at_edges()].concat();
-    let mut records: Vec<Record> = panels.iter().map(Panel::record).collect();
-    records.extend((0..DRAWN).map(|_| drawn(&mut random, SMALL)));
-    records
-}
-
-fn examples() -> Vec<Panel> {
-    let lists: [&[u64]; 12] = [
-        &[0, 1, 2],
-        &[0, 2, 1],
-        &[0, 1, 2, 1, 3, 2],
-        &[],
-        &[0, 1, 2, 1],
-        &[0, 1, 4],
-        &[0, 1, 3],
-        &[0, 0, 1],
-        &[2, 2, 2],
-        &[0, 1, 2, 0, 2, 1],
-        &[1, 3, 2, 0, 1, 2, 0, 1, 3],
-        &[3, 1, 0],
-    ];
-    let materials = [
-        (1.0, 2.0),
-        (0.1, 0.3),
-        (-0.7, 1.1),
-        (0.3, -0.0),
-        (-0.0, 2.0),
-    ];
-    let of = |names: &[u64]| materials.map(|(thick, rho)| Panel::of(&POINTS, names, thick, rho));
-    lists.iter().flat_map(|names| of(names)).collect()
-}
-
-/// Lengths wrong by one, empty lists, a coordinate left over.
-fn lengths() -> Vec<Panel> {
-    let good = Panel::of(&POINTS, &[0, 1, 2], 1.0, 2.0);
-    let with_buffer = |entries: usize| Panel {
-        buffer: vec![-7.0; entries],
-        ..good.clone()
-    };
-    let with_names = |count: u64| Panel {
-        names: (0..count).collect(),
-        ..good.clone()
-    };
-    let with_coordinates = |coordinates: &[f64]| Panel::of(coordinates, &[0, 1, 2], 1.0, 2.0);
-    let mut panels = vec![
-        Panel::of(&[], &[], 1.0, 2.0),
-        Panel::of(&[5.0], &[], 1.0, 2.0),
-        Panel::of(&[f64::NAN], &[], 1.0, 2.0),
-        Panel::of(&[], &[0, 0, 0], 1.0, 2.0),
-        Panel::of(&[5.0], &[0, 0, 0], 1.0, 2.0),
-        Panel {
-            buffer: vec![f64::NAN],
-            ..Panel::of(&[], &[], 1.0, 2.0)
-        },
-        with_coordinates(&[POINTS.to_vec(), vec![f64::NAN]].concat()),
-        with_coordinates(&[POINTS.to_vec(), vec![f64::INFINITY]].concat()),
-        with_coordinates(&POINTS[..7]),
-        with_coordinates(&POINTS[..6]),
-        with_coordinates(&POINTS[..5]),
-        with_coordinates(&POINTS[..4]),
-        Panel::of(&[POINTS.to_vec(), vec![1.0]].concat(), &[0, 1, 4], 1.0, 2.0),
-    ];
-    panels.extend([0, 1, 9, 11, 13, 24].map(with_buffer));
-    panels.extend([1, 2, 4, 5].map(with_names));
-    panels
-}
-
-/// Names beyond the vertices at every place, alone and beside what 1 and 3 refuse.
-fn far() -> Vec<Panel> {
-    let good = Panel::of(&POINTS, &[0, 1, 2, 1, 3, 2], 1.0, 2.0);
-    let mut panels = Vec::new();
-    for name in far_names(4) {
-        for place in 0..6 {
-            let mut panel = good.clone();
-            panel.names[place] = name;
-            panels.push(panel);
-        }
-    }
-    for place in [0, 5] {
-        let mut panel = good.clone();
-        panel.names[place] = 4;
-        panel.thick = f64::NAN;
-        panels.push(panel.clone());
-        panel.buffer.pop();
-        panels.push(panel);
-    }
-    panels
-}
-
-/// What 3 looks at and what it does not.
-fn not_finite() -> Vec<Panel> {
-    let bad = [
-        f64::INFINITY,
-        f64::NEG_INFINITY,
-        f64::NAN,
-        f64::from_bits(0xfff0_0000_0000_0001),
-    ];
-    let mut panels = Vec::new();
-    for (i, x) in bad.into_iter().enumerate() {
-        for names in [&[0, 1, 2][..], &[]] {
-            panels.push(Panel::of(&POINTS, names, x, 2.0));
-            panels.push(Panel::of(&POINTS, names, 1.0, x));
-        }
-        for place in 0..8 {
-            let mut panel = Panel::of(&POINTS, &[2, 0, 1], 1.0, 2.0);
-            panel.coordinates[(place + i) % 8] = x;
-            panels.push(panel);
-        }
-        let mut buffer_alone = Panel::of(&POINTS, &[0, 1, 2], 1.0, 2.0);
-        buffer_alone.buffer.fill(x);
-        panels.push(buffer_alone);
-    }
-    panels
-}
-
-/// Areas, masses and rotational masses that go over or under, each alone too.
-fn at_edges() -> Vec<Panel> {
-    let unit = [0.0, 0.0, 1.0, 0.0, 0.0, 1.0, 1.0, 1.0];
-    let of = |size: f64, thick: f64, rho: f64| {
-        Panel::of(&unit.map(|x| x * size), &[0, 1, 2, 1, 3, 2], thick, rho)
-    };
-    let mut panels = vec![
-        of(1.0, power(342), 1.0),
-        of(1.0, power(343), 1.0),
-        of(1.0, -power(343), 1.0),
-        of(1.0, power(340), 3.0),
-        of(1.0, power(341), 3.0),
-        of(power(511), 1.0, 1.0),
-        of(power(512), 1.0, 1.0),
-        of(power(1000), 1.0, 1.0),
-        of(f64::MAX, 1.0, 1.0),
-        of(power(512), 0.0, 1.0),
-        of(power(512), power(-600), 1.0),
-        of(power(500), 1.0, power(100)),
-        of(power(500), power(-100), power(100)),
-        of(power(500), power(100), power(-100)),
-        of(power(-537), 1.0, 1.0),
-        of(power(-538), -1.0, 1.0),
-        of(power(-520), 3.0, power(-20)),
-        of(power(-500), power(-30), 3.0),
-        of(1.0, power(-342), 7.0),
-        of(1.0, power(-360), 7.0),
-        of(1.0, -power(-360), 7.0),
-        of(1.0, 1.0, f64::MAX),
-        of(3.0, 1.0, f64::MAX),
-        of(f64::from_bits(1), 1.0, 1.0),
-    ];
-    let twice = Panel::of(&unit, &[0, 0, 1, 2, 2, 2], -1.0, 1.0);
-    let sum_overflows = Panel::of(&unit, &[0, 1, 2, 0, 1, 2], 1.0, f64::MAX);
-    let sums_overflow = Panel::of(&unit, &[0, 1, 2].repeat(8), 1.0, f64::MAX);
-    panels.extend([twice, sum_overflows, sums_overflow]);
-    panels.extend((1..=30).map(units));
-    panels
-}
-
-/// A rotational mass of `n` twelfths of the smallest number.
-fn units(n: u32) -> Panel {
-    let area_three = [0.0, 0.0, 6.0, 0.0, 0.0, 1.0];
-    Panel::of(&area_three, &[0, 1, 2], power(-358), f64::from(n))
 }

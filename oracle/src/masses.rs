@@ -3,7 +3,8 @@
 
 use crate::answer::Answer;
 use crate::kernels::{finite, same};
-use crate::record::{numbers_of, MASSES_HEAD};
+use crate::material::{self, Material};
+use crate::record::{numbers_of, MASSES_LENGTHS};
 use crate::traced::{self, Traced};
 use del_fem_cpu::mitc_tri3;
 
@@ -12,20 +13,21 @@ pub const MOST_TRIANGLES: usize = 131_072;
 
 /// The words of a masses record, taken apart.
 pub fn answer(words: &[u64]) -> Answer {
-    let (head, lists) = words.split_at(MASSES_HEAD);
-    let (coordinates, lists) = lists.split_at(head[0] as usize);
-    let (names, buffer) = lists.split_at(head[1] as usize);
-    let [thick, rho] = [head[3], head[4]].map(f64::from_bits);
+    let (lengths, behind) = words.split_at(MASSES_LENGTHS);
+    let (material, lists) = behind.split_at(material::WORDS);
+    let (coordinates, lists) = lists.split_at(lengths[0] as usize);
+    let (names, buffer) = lists.split_at(lengths[1] as usize);
     masses(
         names,
         &numbers_of(coordinates),
-        thick,
-        rho,
+        &Material::read(material),
         &numbers_of(buffer),
     )
 }
 
-pub fn masses(names: &[u64], xy: &[f64], thick: f64, rho: f64, buffer: &[f64]) -> Answer {
+/// Thickness and density are all that masses use of the material.
+pub fn masses(names: &[u64], xy: &[f64], material: &Material, buffer: &[f64]) -> Answer {
+    let (thick, rho) = (material.thickness, material.density);
     if let Some(number) = refused_before(names, xy, thick, rho, buffer.len()) {
         return Answer::of(number, buffer.to_vec());
     }

@@ -1,5 +1,6 @@
 //! Records of big-endian words: a kind, then the inputs of its routine.
 
+use crate::material::{self, Material};
 use std::io::{self, Write};
 
 pub const ROOT: u64 = 1;
@@ -27,11 +28,13 @@ pub const KINDS: [u64; 9] = [
 /// Input words of the helpers, the first entry for helper 1.
 pub const HELPER_INPUTS: [usize; 11] = [6, 6, 6, 4, 3, 3, 6, 9, 9, 6, 9];
 
-/// Words of a masses record before its lists: N, T, B, thickness, density.
-pub const MASSES_HEAD: usize = 5;
+/// Words of corners before the material.
+pub const STVK_CORNERS: usize = 18;
+pub const PLATE_CORNERS: usize = 15;
 
-/// Words of a skin record before its lists: N, M, T, B, lambda, myu.
-pub const SKIN_HEAD: usize = 6;
+/// Lengths before the material of masses, N, T, B, and before that of a skin, N, M, T, B.
+pub const MASSES_LENGTHS: usize = 3;
+pub const SKIN_LENGTHS: usize = 4;
 
 const LONGEST_LIST: u64 = 4096;
 
@@ -48,6 +51,12 @@ impl Record {
             kind,
             words: words_of(numbers),
         }
+    }
+
+    /// Corners, then a material.
+    pub fn of_corners(kind: u64, corners: &[f64], material: &Material) -> Record {
+        let words = [&words_of(corners)[..], &material.words()].concat();
+        Record { kind, words }
     }
 
     pub fn of_helper(helper: usize, numbers: &[f64]) -> Record {
@@ -74,7 +83,7 @@ pub fn numbers_of(words: &[u64]) -> Vec<f64> {
     words.iter().map(|word| f64::from_bits(*word)).collect()
 }
 
-/// Cut short, of an unknown kind or helper, or with a list that is too long.
+/// Cut short, of an unknown kind, helper or stiffness, or with a list that is too long.
 #[derive(Debug, PartialEq)]
 pub struct Malformed;
 
@@ -103,20 +112,27 @@ impl<'a> Records<'a> {
             ROOT => self.words(1),
             BENDING => self.words(24),
             STRAIN | GREEN_LAGRANGE => self.words(15),
-            STVK => self.words(20),
-            PLATE => self.words(18),
-            MASSES => self.lists(MASSES_HEAD),
-            SKIN => self.lists(SKIN_HEAD),
+            STVK => self.before_material(STVK_CORNERS),
+            PLATE => self.before_material(PLATE_CORNERS),
+            MASSES => self.lists(MASSES_LENGTHS),
+            SKIN => self.lists(SKIN_LENGTHS),
             HELPER => self.helper(),
             _ => None,
         }?;
         Some(Record { kind, words })
     }
 
-    /// A head of the lists' lengths and two numbers, then the lists.
-    fn lists(&mut self, head: usize) -> Option<Vec<u64>> {
-        let head = self.words(head)?;
-        let lengths = &head[..head.len() - 2];
+    /// So many words, then a material.
+    fn before_material(&mut self, count: usize) -> Option<Vec<u64>> {
+        let words = self.words(count + material::WORDS)?;
+        Material::of(&words[count..])?;
+        Some(words)
+    }
+
+    /// The lists' lengths, a material, then the lists.
+    fn lists(&mut self, lengths: usize) -> Option<Vec<u64>> {
+        let head = self.before_material(lengths)?;
+        let lengths = &head[..lengths];
         if lengths.iter().any(|length| *length > LONGEST_LIST) {
             return None;
         }

@@ -2,6 +2,8 @@
 
 use crate::answer::word;
 use crate::masses::masses;
+use crate::material::Material;
+use crate::material_cases::lame;
 use std::fmt::Write as _;
 
 const REFUSALS: [(u64, &str); 4] = [
@@ -49,7 +51,12 @@ fn sized(names: &[u64], xy: &[f64], thick: f64, rho: f64) -> String {
         shown(rho),
         shown(thick)
     );
-    let answer = masses(names, xy, thick, rho, &vec![0.0; xy.len() / 2 * 3]);
+    let material = Material {
+        density: rho,
+        thickness: thick,
+        stiffness: lame([f64::NAN; 2]),
+    };
+    let answer = masses(names, xy, &material, &vec![0.0; xy.len() / 2 * 3]);
     if let Some((number, words)) = REFUSALS.iter().find(|row| row.0 == answer.number) {
         writeln!(text, "refused: {words} ({number})").unwrap();
         return text;

@@ -4,26 +4,33 @@
 use crate::answer::Answer;
 use crate::kernels::{self, finite};
 use crate::masses::{MOST_TRIANGLES, MOST_VERTICES};
-use crate::record::{numbers_of, SKIN_HEAD, STVK};
+use crate::material::{self, Material};
+use crate::record::{numbers_of, SKIN_LENGTHS, STVK};
 
 /// The words of a skin record, taken apart.
 pub fn answer(words: &[u64]) -> Answer {
-    let (head, lists) = words.split_at(SKIN_HEAD);
-    let (ini, lists) = lists.split_at(head[0] as usize);
-    let (def, lists) = lists.split_at(head[1] as usize);
-    let (names, buffer) = lists.split_at(head[2] as usize);
-    let lame = [head[4], head[5]].map(f64::from_bits);
+    let (lengths, behind) = words.split_at(SKIN_LENGTHS);
+    let (material, lists) = behind.split_at(material::WORDS);
+    let (ini, lists) = lists.split_at(lengths[0] as usize);
+    let (def, lists) = lists.split_at(lengths[1] as usize);
+    let (names, buffer) = lists.split_at(lengths[2] as usize);
     skin(
         &numbers_of(ini),
         &numbers_of(def),
         names,
-        lame,
+        &Material::read(material),
         &numbers_of(buffer),
     )
 }
 
 /// The values are the energy, then the buffer on return.
-pub fn skin(ini: &[f64], def: &[f64], names: &[u64], lame: [f64; 2], buffer: &[f64]) -> Answer {
+pub fn skin(
+    ini: &[f64],
+    def: &[f64],
+    names: &[u64],
+    material: &Material,
+    buffer: &[f64],
+) -> Answer {
     if let Some(number) = refused_before(ini, def, names, buffer.len()) {
         return of(number, 0, 0.0, buffer);
     }
@@ -31,7 +38,7 @@ pub fn skin(ini: &[f64], def: &[f64], names: &[u64], lame: [f64; 2], buffer: &[f
     let mut w = 0.0;
     let mut dw = zeros.clone();
     for (place, names) in names.chunks(3).enumerate() {
-        let single = single(ini, def, names, lame);
+        let single = single(ini, def, names, material);
         if single.number != 0 {
             return of(single.number, place, 0.0, &zeros);
         }
@@ -69,9 +76,9 @@ fn refused_before(ini: &[f64], def: &[f64], names: &[u64], entries: usize) -> Op
 }
 
 /// The kernel's answer for the triangle of these three names.
-pub fn single(ini: &[f64], def: &[f64], names: &[u64], lame: [f64; 2]) -> Answer {
-    let inputs = [corners(ini, names), corners(def, names), lame.to_vec()];
-    kernels::answer(STVK, &inputs.concat())
+pub fn single(ini: &[f64], def: &[f64], names: &[u64], material: &Material) -> Answer {
+    let corners = [corners(ini, names), corners(def, names)];
+    kernels::with_material(STVK, &corners.concat(), material)
 }
 
 fn corners(points: &[f64], names: &[u64]) -> Vec<f64> {

@@ -1,6 +1,8 @@
 //! Inputs of a whole skin.
 
 use crate::mass_cases::{far_names, grid, grid_names, place_in, Size, LARGE};
+use crate::material::{Material, Stiffness};
+use crate::material_cases::{drawn_unused, either, lame, stiffer};
 use crate::numbers::{self, power};
 use crate::random::Random;
 use crate::record::{words_of, Record, SKIN};
@@ -17,27 +19,43 @@ pub struct Skin {
     pub ini: Vec<f64>,
     pub def: Vec<f64>,
     pub names: Vec<u64>,
-    pub lame: [f64; 2],
+    pub material: Material,
     pub buffer: Vec<f64>,
 }
 
 impl Skin {
-    /// A buffer of the right length that is full of numbers to be overwritten.
-    pub fn of(ini: &[f64], def: &[f64], names: &[u64], lame: [f64; 2]) -> Skin {
+    /// A buffer of the right length that is full of numbers to be overwritten, and a
+    /// density and a thickness that a skin does not use.
+    pub fn of(ini: &[f64], def: &[f64], names: &[u64], pair: [f64; 2]) -> Skin {
         Skin {
             ini: ini.to_vec(),
             def: def.to_vec(),
             names: names.to_vec(),
-            lame,
+            material: Material {
+                density: f64::NAN,
+                thickness: f64::NAN,
+                stiffness: lame(pair),
+            },
             buffer: (0..ini.len()).map(|i| i as f64 - 1.5).collect(),
         }
+    }
+
+    pub fn with_stiffness(mut self, stiffness: Stiffness) -> Skin {
+        self.material.stiffness = stiffness;
+        self
+    }
+
+    pub fn with_unused(mut self, [density, thickness]: [f64; 2]) -> Skin {
+        self.material.density = density;
+        self.material.thickness = thickness;
+        self
     }
 
     pub fn record(&self) -> Record {
         let [n, m, b] = [&self.ini, &self.def, &self.buffer].map(|list| list.len() as u64);
         let words = [
             vec![n, m, self.names.len() as u64, b],
-            words_of(&self.lame),
+            self.material.words().to_vec(),
             words_of(&self.ini),
             words_of(&self.def),
             self.names.clone(),
@@ -53,20 +71,23 @@ impl Skin {
     /// largest double: below 1 a sum of them may overflow, and where triangles
     /// are small what a value is made of.
     pub fn stiff(mut self, part: f64) -> Skin {
-        let single = |names| skin::single(&self.ini, &self.def, names, self.lame).values;
+        let single = |names| skin::single(&self.ini, &self.def, names, &self.material).values;
         let values = self.names.chunks(3).flat_map(single);
         let top = values.fold(0.0, |top: f64, x| top.max(x.abs()));
         if top > 1.0 {
-            self.lame = self.lame.map(|x| x * (f64::MAX / top * part));
+            let factor = f64::MAX / top * part;
+            self.material.stiffness = stiffer(self.material.stiffness, factor);
         }
         self
     }
 }
 
-/// One in fifty is drawn large.
+/// One in fifty is drawn large, half have Young's modulus.
 pub fn generated(random: &mut Random) -> Record {
     let size = if random.percent(2) { LARGE } else { USUAL };
-    drawn(random, size).record()
+    let skin = drawn(random, size).with_unused(drawn_unused(random));
+    let stiffness = either(random, skin.material.stiffness.given());
+    skin.with_stiffness(stiffness).record()
 }
 
 pub fn drawn(random: &mut Random, size: Size) -> Skin {
@@ -101,8 +122,8 @@ fn tame(random: &mut Random, size: Size) -> Skin {
             .map(|x| x + numbers::small(random) / 16.0)
             .collect(),
     };
-    let lame = numbers::similar(random, 2, 2, 5);
-    Skin::of(&ini, &def, &names, [lame[0], lame[1]])
+    let pair = numbers::similar(random, 2, 2, 5);
+    Skin::of(&ini, &def, &names, [pair[0], pair[1]])
 }
 
 /// Three vertices, no two the same.
@@ -139,13 +160,20 @@ fn disturbed(random: &mut Random, mut skin: Skin) -> Skin {
         5 => named_twice(random, &mut skin),
         6 => spoil(random, &mut skin.ini),
         7 => spoil(random, &mut skin.def),
-        8 => skin.lame[random.below(2) as usize] = numbers::special(random),
-        9 => skin.lame[random.below(2) as usize] = numbers::wild(random),
+        8 => restiffen(random, &mut skin, numbers::special),
+        9 => restiffen(random, &mut skin, numbers::wild),
         10 => skin.buffer.fill_with(|| numbers::any(random)),
         11 => return pulled(random, skin).stiff(random.pick(&[0.2, 0.5, 0.9])),
         _ => return skin.stiff(random.pick(&[0.2, 0.5, 0.9, 1.1])),
     }
     skin
+}
+
+/// Another number for one of the Lamé pair.
+fn restiffen(random: &mut Random, skin: &mut Skin, number: fn(&mut Random) -> f64) {
+    let mut pair = skin.material.stiffness.given();
+    pair[random.below(2) as usize] = number(random);
+    skin.material.stiffness = lame(pair);
 }
 
 /// One list of numbers a little longer or shorter.
@@ -196,9 +224,14 @@ pub fn run_of(triangles: u64, count: u64) -> Record {
     let creased = |(v, [x, y]): (usize, [f64; 2])| [x * 1.1, y * 0.9, (v % 5) as f64 * 0.1];
     let def: Vec<f64> = grid(triangles).enumerate().flat_map(creased).collect();
     let names = grid_names(triangles, 0);
+    let material = Material {
+        density: 1.7,
+        thickness: 0.3,
+        stiffness: lame([1.3, 1.9]),
+    };
     let words = [
         vec![count, ini.len() as u64, names.len() as u64],
-        words_of(&[1.3, 1.9]),
+        material.words().to_vec(),
         words_of(&ini),
         words_of(&def),
         names,

@@ -2,19 +2,21 @@
 
 use crate::kernel_cases::{layout, with_one_infinite, with_zero_divisors};
 use crate::mass_cases::{far_names, SMALL};
+use crate::material_cases::{lame, unused};
+use crate::material_samples;
 use crate::numbers::{self, power};
 use crate::random::Random;
-use crate::record::{numbers_of, Record, SKIN, STVK};
+use crate::record::{Record, SKIN, STVK};
 use crate::skin_cases::{drawn, Skin};
 
 const DRAWN: usize = 120;
 
-const SQUARE: [f64; 12] = [0.0, 0.0, 0.0, 1.0, 0.0, 0.0, 0.0, 1.0, 0.0, 1.0, 1.0, 0.0];
+pub const SQUARE: [f64; 12] = [0.0, 0.0, 0.0, 1.0, 0.0, 0.0, 0.0, 1.0, 0.0, 1.0, 1.0, 0.0];
 const PULLED: [f64; 12] = [0.0, 0.0, 0.0, 2.0, 0.0, 0.0, 0.0, 1.0, 0.0, 2.0, 1.0, 0.0];
-const CREASED: [f64; 12] = [0.1, 0.2, 0.3, 1.3, -0.1, 0.7, 0.2, 1.1, -0.4, 0.9, 1.2, 0.6];
+pub const CREASED: [f64; 12] = [0.1, 0.2, 0.3, 1.3, -0.1, 0.7, 0.2, 1.1, -0.4, 0.9, 1.2, 0.6];
 
 /// Both triangles of the square.
-const BOTH: [u64; 6] = [0, 1, 2, 1, 3, 2];
+pub const BOTH: [u64; 6] = [0, 1, 2, 1, 3, 2];
 
 const LAME: [f64; 2] = [1.3, 1.9];
 
@@ -44,10 +46,15 @@ pub fn sample() -> Vec<Record> {
     ]
     .concat();
     skins.extend((0..DRAWN).map(|_| drawn(&mut random, SMALL)));
-    skins.iter().map(Skin::record).collect()
+    let places = skins.into_iter().enumerate();
+    let mut records: Vec<Record> = places
+        .map(|(i, skin)| skin.with_unused(unused(i)).record())
+        .collect();
+    records.extend(material_samples::skin());
+    records
 }
 
-fn creased() -> Skin {
+pub fn creased() -> Skin {
     Skin::of(&SQUARE, &CREASED, &BOTH, LAME)
 }
 
@@ -131,7 +138,7 @@ fn far() -> Vec<Skin> {
     for place in [0, 5] {
         let mut skin = creased();
         skin.names[place] = 4;
-        skin.lame[0] = f64::NAN;
+        skin.material.stiffness = lame([f64::NAN, LAME[1]]);
         skins.push(skin.clone());
         skin.def.push(0.0);
         skins.push(skin);
@@ -225,33 +232,41 @@ fn energetic(names: &[u64], part: f64) -> Skin {
 }
 
 /// A triangle's corners at rest and deformed.
-type Triangle = [[f64; 9]; 2];
+pub type Triangle = [[f64; 9]; 2];
 
 const RIGHT: [f64; 9] = [0.0, 0.0, 0.0, 1.0, 0.0, 0.0, 0.0, 1.0, 0.0];
 const ACCEPTED: Triangle = [RIGHT, [0.1, 0.2, 0.3, 1.3, -0.1, 0.7, 0.2, 1.1, -0.4]];
 
 /// Triangles that share no vertex.
-fn apart(triangles: &[Triangle], lame: [f64; 2]) -> Skin {
+pub fn apart(triangles: &[Triangle], lame: [f64; 2]) -> Skin {
     let points = |i: usize| -> Vec<f64> { triangles.iter().flat_map(|t| t[i]).collect() };
     let names: Vec<u64> = (0..3 * triangles.len() as u64).collect();
     Skin::of(&points(0), &points(1), &names, lame)
 }
 
-/// Every sequence of three triangles, each accepted or refused by 3, 4 or 5.
-fn sequences() -> Vec<Skin> {
+/// Triangles that are accepted and that 3, 4 and 5 refuse; those of 3 are of two kinds.
+pub fn triangles(place: usize) -> [Triangle; 4] {
     let mut nan_at_rest = ACCEPTED;
     nan_at_rest[0][4] = f64::NAN;
     let mut infinite = ACCEPTED;
     infinite[1][8] = f64::INFINITY;
     let line = [0.0, 0.0, 0.0, 1.0, 0.0, 0.0, 2.0, 0.0, 0.0];
     let torn = [RIGHT, RIGHT.map(|x| x * power(300))];
-    let kinds = |place: usize| {
-        let not_finite = [nan_at_rest, infinite][place % 2];
-        [ACCEPTED, not_finite, [line, RIGHT], torn]
-    };
+    let not_finite = [nan_at_rest, infinite][place % 2];
+    [ACCEPTED, not_finite, [line, RIGHT], torn]
+}
+
+/// Every sequence of three triangles, each accepted or refused by 3, 4 or 5.
+fn sequences() -> Vec<Skin> {
     (0..64)
-        .map(|i| [kinds(0)[i / 16], kinds(1)[i / 4 % 4], kinds(2)[i % 4]])
-        .map(|triangles| apart(&triangles, LAME))
+        .map(|i| {
+            [
+                triangles(0)[i / 16],
+                triangles(1)[i / 4 % 4],
+                triangles(2)[i % 4],
+            ]
+        })
+        .map(|sequence| apart(&sequence, LAME))
         .collect()
 }
 
@@ -259,18 +274,15 @@ fn sequences() -> Vec<Skin> {
 /// gradient or one of the Hessian alone beyond the range.
 fn single_triangles(random: &mut Random) -> Vec<Skin> {
     let stvk = layout(STVK);
-    let mut records = Vec::new();
+    let mut cases = Vec::new();
     for divisor in 1..4 {
-        records.push(with_zero_divisors(random, &stvk, &[divisor]));
+        cases.push(with_zero_divisors(random, &stvk, &[divisor]));
     }
     for value in [0, 1, 5, 9, 10, 50, 90] {
-        records.push(with_one_infinite(random, &stvk, value));
+        cases.push(with_one_infinite(random, &stvk, value));
     }
-    let skin = |record: &Record| {
-        let x = numbers_of(&record.words);
-        Skin::of(&x[..9], &x[9..18], &[0, 1, 2], [x[18], x[19]])
-    };
-    records.iter().map(skin).collect()
+    let skin = |x: &Vec<f64>| Skin::of(&x[..9], &x[9..18], &[0, 1, 2], [x[18], x[19]]);
+    cases.iter().map(skin).collect()
 }
 
 /// No triangle is refused, but a sum is beyond the range, the energy's or an
@@ -326,7 +338,8 @@ fn reversed(skin: &Skin) -> Skin {
     let last = skin.ini.len() as u64 / 3 - 1;
     let names: Vec<u64> = skin.names.iter().map(|name| last - name).collect();
     let points = |list: &[f64]| -> Vec<f64> { list.iter().rev().copied().collect() };
-    Skin::of(&points(&skin.ini), &points(&skin.def), &names, skin.lame)
+    let pair = skin.material.stiffness.given();
+    Skin::of(&points(&skin.ini), &points(&skin.def), &names, pair)
 }
 
 /// The same four triangles in every order: last bits differ.

@@ -3,12 +3,16 @@
 
 use crate::answer::{self, answer};
 use crate::helpers::points;
+use crate::kernels::Call;
+use crate::material::{self, Material};
+use crate::material_cases::lame;
 use crate::random::Random;
 use crate::record::{
     self, numbers_of, Record, Records, BENDING, GREEN_LAGRANGE, KINDS, PLATE, STRAIN, STVK,
 };
 use crate::{compare, generated, kernels, masses, sample, skin};
 use del_geo_core::{curve_linear_coords, edge, tri3, vec3};
+use std::collections::BTreeSet;
 
 const KERNELS: [u64; 5] = [BENDING, STRAIN, STVK, PLATE, GREEN_LAGRANGE];
 
@@ -27,8 +31,25 @@ fn refusal(kind: u64, inputs: &[f64]) -> u64 {
 
 const SQUARE: [f64; 8] = [0.0, 0.0, 6.0, 0.0, 0.0, 6.0, 6.0, 6.0];
 
+/// A thickness and a density for masses, a Lamé pair for a skin; neither uses the other's.
+fn material(thickness: f64, density: f64, pair: [f64; 2]) -> Material {
+    Material {
+        density,
+        thickness,
+        stiffness: lame(pair),
+    }
+}
+
+fn for_masses(thickness: f64, density: f64) -> Material {
+    material(thickness, density, [f64::NAN; 2])
+}
+
+fn for_skins(pair: [f64; 2]) -> Material {
+    material(f64::NAN, f64::NAN, pair)
+}
+
 fn square_masses(names: &[u64]) -> (u64, Vec<f64>) {
-    let answer = masses::masses(names, &SQUARE, 1.0, 2.0, &[7.0; 12]);
+    let answer = masses::masses(names, &SQUARE, &for_masses(1.0, 2.0), &[7.0; 12]);
     (answer.number, answer.values)
 }
 
@@ -60,8 +81,7 @@ fn limits_of_masses() {
         masses::masses(
             &vec![0; names],
             &vec![1.0; coordinates],
-            1.0,
-            1.0,
+            &for_masses(1.0, 1.0),
             &vec![0.0; entries],
         )
         .number
@@ -78,7 +98,7 @@ const PULLED: [f64; 12] = [0.0, 0.0, 0.0, 2.0, 0.0, 0.0, 0.0, 1.0, 0.0, 2.0, 1.0
 
 /// Number, place, energy, and the gradient's x at each vertex.
 fn pulled_skin(names: &[u64], lame: [f64; 2]) -> (u64, u64, f64, Vec<f64>) {
-    let answer = skin::skin(&REST, &PULLED, names, lame, &[7.0; 12]);
+    let answer = skin::skin(&REST, &PULLED, names, &for_skins(lame), &[7.0; 12]);
     let along = answer.values[1..].iter().copied().step_by(3).collect();
     (
         answer.number,
@@ -125,7 +145,8 @@ fn limits_of_skins() {
     let number = |names: usize, numbers: usize| {
         let points: Vec<f64> = (0..numbers).map(|i| (i * i) as f64).collect();
         let names: Vec<u64> = (0..names as u64).map(|i| i % 3).collect();
-        skin::skin(&points, &points, &names, [1.0, 1.0], &vec![0.0; numbers]).number
+        let material = for_skins([1.0, 1.0]);
+        skin::skin(&points, &points, &names, &material, &vec![0.0; numbers]).number
     };
     assert_eq!(number(3, 196_608), 0);
     assert_eq!(number(3, 196_611), 1);
@@ -326,7 +347,7 @@ fn listed_divisors(kind: u64, x: &[f64]) -> Vec<f64> {
 fn traced_divisors_are_the_listed_ones() {
     for kind in KERNELS {
         for record in sample(kind) {
-            let inputs = numbers_of(&record.words);
+            let inputs = Call::of(&record).inputs;
             let traced = kernels::divisors(kind, &inputs);
             assert!(
                 kernels::same(&traced, &listed_divisors(kind, &inputs)),
@@ -350,7 +371,7 @@ fn the_inverse_divides_by_three_dots() {
 fn sampled_alone(kind: u64, places: &[usize]) -> bool {
     sample(kind)
         .iter()
-        .map(|record| numbers_of(&record.words))
+        .map(|record| Call::of(record).inputs)
         .any(|inputs| {
             let divisors = kernels::divisors(kind, &inputs);
             let zeros: Vec<usize> = (0..divisors.len())
@@ -388,7 +409,8 @@ fn half_are_accepted(numbers: &[u64]) -> bool {
 #[test]
 fn rotation_overflows_alone() {
     let thick = 2f64.powi(343);
-    let answer = masses::masses(&[0, 1, 2], &SQUARE[..6], thick, 1.0, &[7.0; 9]);
+    let material = for_masses(thick, 1.0);
+    let answer = masses::masses(&[0, 1, 2], &SQUARE[..6], &material, &[7.0; 9]);
     assert_eq!((answer.number, answer.values), (5, vec![0.0; 9]));
     let share = 6.0 * thick;
     assert!(share.is_finite() && !(share * thick * thick).is_finite());
@@ -396,44 +418,36 @@ fn rotation_overflows_alone() {
 
 #[test]
 fn the_sample_gives_every_refusal() {
-    for kind in KERNELS {
+    for (kind, count, refusals) in [
+        (BENDING, 400, &[0, 3, 4, 5][..]),
+        (STRAIN, 400, &[0, 3, 4, 5]),
+        (GREEN_LAGRANGE, 400, &[0, 3, 4, 5]),
+        (STVK, 700, &[0, 3, 4, 5, 7]),
+        (PLATE, 700, &[0, 3, 4, 5, 7]),
+        (record::MASSES, 800, &[0, 1, 2, 3, 5]),
+        (record::SKIN, 800, &[0, 1, 2, 3, 4, 5, 7]),
+    ] {
         let numbers: Vec<u64> = sample(kind).iter().map(|r| answer(r).number).collect();
-        assert!(numbers.len() >= 400);
+        assert!(numbers.len() >= count, "kind {kind}");
         assert!(half_are_accepted(&numbers), "kind {kind}");
-        assert!(
-            [0, 3, 4, 5].iter().all(|n| numbers.contains(n)),
-            "kind {kind}"
-        );
+        let given: BTreeSet<u64> = numbers.into_iter().collect();
+        assert!(given.iter().eq(refusals), "kind {kind}: {given:?}");
     }
-    let numbers: Vec<u64> = sample(record::MASSES)
-        .iter()
-        .map(|r| answer(r).number)
-        .collect();
-    assert!(numbers.len() >= 600);
-    assert!(half_are_accepted(&numbers));
-    assert!([0, 1, 2, 3, 5].iter().all(|n| numbers.contains(n)));
-    let numbers: Vec<u64> = sample(record::SKIN)
-        .iter()
-        .map(|r| answer(r).number)
-        .collect();
-    assert!(numbers.len() >= 600);
-    assert!(half_are_accepted(&numbers));
-    assert!((0..6).all(|n| numbers.contains(&n)));
 }
 
 /// Whether the sums of a record's triangles are finite: the energy's, and the gradient's.
 fn finite_sums(record: &Record) -> (bool, bool) {
     let count = |i: usize| record.words[i] as usize;
-    let lists = &record.words[record::SKIN_HEAD..];
+    let (material, lists) = record.words[record::SKIN_LENGTHS..].split_at(material::WORDS);
     let (ini, def) = (
         numbers_of(&lists[..count(0)]),
         numbers_of(&lists[count(0)..][..count(1)]),
     );
-    let lame = [record.words[4], record.words[5]].map(f64::from_bits);
+    let material = Material::read(material);
     let mut w = 0.0;
     let mut dw = vec![0.0; ini.len()];
     for names in lists[count(0) + count(1)..][..count(2)].chunks(3) {
-        let values = skin::single(&ini, &def, names, lame).values;
+        let values = skin::single(&ini, &def, names, &material).values;
         w += values[0];
         for (i, x) in values[1..10].iter().enumerate() {
             dw[names[i / 3] as usize * 3 + i % 3] += x;
@@ -449,7 +463,7 @@ fn the_sample_gives_places() {
     let records = sample(record::SKIN);
     let answers: Vec<_> = records.iter().map(|r| (r, answer(r))).collect();
     let triangles = |record: &Record| record.words[2] / 3;
-    for number in 3..6 {
+    for number in [3, 4, 5] {
         let middle = |(record, answer): &(&Record, answer::Answer)| {
             let place = answer.place.unwrap();
             answer.number == number && 0 < place && place + 1 < triangles(record)
@@ -508,15 +522,42 @@ fn malformed_records_end_the_answers() {
             let mut words = vec![0; 5000];
             words[0] = kind;
             words[place] = 4097;
+            words[lists + 1] = 2;
             assert_eq!(lines(&words, 0), "?\n");
         }
     }
     let zero = "0000000000000000";
-    assert_eq!(lines(&[6, 0, 0, 0, four, four], 0), format!("{zero}\n"));
     assert_eq!(
-        lines(&[7, 0, 0, 0, 0, four, four], 0),
+        lines(&[6, 0, 0, 0, 2, four, four, four, four], 0),
+        format!("{zero}\n")
+    );
+    assert_eq!(
+        lines(&[7, 0, 0, 0, 0, 3, four, four, four, four], 0),
         format!("{zero} {zero} {zero}\n")
     );
+}
+
+/// A material's first word is 2 or 3, used or not.
+#[test]
+fn unknown_stiffnesses_end_the_answers() {
+    for (kind, before) in [(4, 18), (5, 15), (6, 3), (7, 4)] {
+        let record = |first: u64| {
+            let mut words = vec![0; 1 + before + material::WORDS];
+            words[0] = kind;
+            words[1 + before] = first;
+            words
+        };
+        for first in [0, 1, 4, 5, (1 << 32) + 2, (1 << 63) + 3, 2f64.to_bits()] {
+            assert_eq!(lines(&record(first), 0), "?\n", "kind {kind}, {first}");
+            assert_eq!(lines(&record(first), 1), "?\n", "kind {kind}, {first}");
+            assert_eq!(lines(&record(first)[..2 + before], 0), "?\n");
+        }
+        for first in [2, 3] {
+            assert_eq!(lines(&record(first), 0).lines().count(), 1);
+            assert_ne!(lines(&record(first), 0), "?\n", "kind {kind}, {first}");
+            assert_eq!(lines(&record(first), 1), "?\n", "kind {kind}, {first}");
+        }
+    }
 }
 
 #[test]

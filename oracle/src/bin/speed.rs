@@ -15,6 +15,9 @@ const STEP: f64 = 1.0 / 1048576.0;
 
 type Numbers = [f64; 24];
 
+/// First word of a material with a Lamé pair, the only stiffness of a run.
+const LAME: u64 = 2;
+
 fn root(x: &Numbers, _: usize) -> f64 {
     x[0].sqrt()
 }
@@ -44,7 +47,7 @@ fn green_lagrange(x: &Numbers, k: usize) -> f64 {
 }
 
 fn stvk(x: &Numbers, k: usize) -> f64 {
-    let (w, dw, ddw) = stvk_tri3::wdwddw_(space(&x[..9]), space(&x[9..18]), x[18], x[19]);
+    let (w, dw, ddw) = stvk_tri3::wdwddw_(space(&x[..9]), space(&x[9..18]), x[21], x[22]);
     let at = k % 81;
     w + dw[at / 3 % 3][at % 3] + ddw[at / 27][at / 9 % 3][at % 9]
 }
@@ -54,9 +57,9 @@ fn plate(x: &Numbers, k: usize) -> f64 {
     let (w, dw, ddw) = mitc_tri3::w_dw_ddw_plate_bending(
         &[&p[0], &p[1], &p[2]],
         &space(&x[6..15]),
-        x[15],
-        x[16],
         x[17],
+        x[18],
+        x[19],
     );
     let at = k % 81;
     w + dw[at / 3 % 3][at % 3] + ddw[at / 27][at / 9 % 3][at % 9]
@@ -121,7 +124,7 @@ fn point(points: &[f64], name: usize) -> [f64; 3] {
 /// Calls on a skin, lambda moved from one to the next.
 fn skins(count: u64, words: &mut impl Iterator<Item = u64>) -> f64 {
     let (numbers, names) = (next(words), next(words));
-    let [lambda, myu] = [next(words), next(words)].map(f64::from_bits);
+    let [_, _, lambda, myu] = material(words);
     let vtx2ini = list(words, numbers, f64::from_bits);
     let vtx2def = list(words, numbers, f64::from_bits);
     let tri2vtx = list(words, names, |word| word as usize);
@@ -146,13 +149,24 @@ fn kernel(kind: u64, count: u64, words: &mut impl Iterator<Item = u64>) -> f64 {
         8 => green_lagrange,
         _ => nothing,
     };
-    let x = std::array::from_fn(|_| f64::from_bits(next(words)));
-    sum(call, count, x)
+    let words: [u64; 24] = std::array::from_fn(|_| next(words));
+    match kind {
+        4 => assert_eq!(words[18], LAME),
+        5 => assert_eq!(words[15], LAME),
+        _ => {}
+    }
+    sum(call, count, words.map(f64::from_bits))
+}
+
+/// Density, thickness, lambda and myu.
+fn material(words: &mut impl Iterator<Item = u64>) -> [f64; 4] {
+    assert_eq!(next(words), LAME);
+    std::array::from_fn(|_| f64::from_bits(next(words)))
 }
 
 fn panel(count: u64, words: &mut impl Iterator<Item = u64>) -> f64 {
     let (coordinates, names) = (next(words), next(words));
-    let [thick, rho] = [next(words), next(words)].map(f64::from_bits);
+    let [rho, thick, ..] = material(words);
     let vtx2xy = list(words, coordinates, f64::from_bits);
     let tri2vtx = list(words, names, |word| word as usize);
     masses(count, &tri2vtx, &vtx2xy, thick, rho)
