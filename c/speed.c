@@ -1,15 +1,15 @@
 /*
- * Calls an exported function many times, so that the instructions of one call can be counted as C sees it (docs/SPEED.md). Standard input holds runs of big-endian 64-bit words: the routine's number of
- * docs/REPLAY.md, how many calls, and 24 numbers by their bits, its inputs first; for masses in place of these the lengths of the two lists, thickness, density, the coordinates and the names; for a skin
- * how many numbers each of its point lists has, how many names, lambda, myu, the points at rest, those deformed and the names. A line for each run: the bits of the sum of what the calls gave.
- * `speed PATH CALLS` calls del_fem_mesh_read on the file at PATH instead.
+ * Calls an exported function many times, so that the instructions of one call can be counted as C sees it (docs/SPEED.md). Standard input holds runs of big-endian 64-bit words: the routine's
+ * number of docs/REPLAY.md, how many calls, and 24 numbers by their bits, its inputs first; for masses in place of these the lengths of the two lists, the material, the coordinates and the
+ * names; for a skin how many numbers each of its point lists has, how many names, the material, the points at rest, those deformed and the names. A material is five words, the first a whole
+ * number: stiffness, density, thickness, a, b. A line for each run: the bits of the sum of what the calls gave. `speed PATH CALLS` calls del_fem_mesh_read on the file at PATH instead.
  */
 #include "del_fem.h"
 #include <stdio.h>
 #include <stdlib.h>
 #include <string.h>
 
-/* By how much every number moves from one call to the next. */
+/* By how much every number moves from one call to the next; of a panel the thickness alone, of a skin a. */
 static const double STEP = 1.0 / 1048576.0;
 
 static int next_word(uint64_t *w) {
@@ -39,6 +39,16 @@ static double number(void) {
     return x;
 }
 
+static del_fem_material material(void) {
+    del_fem_material m;
+    m.stiffness = (uint32_t)whole();
+    m.density = number();
+    m.thickness = number();
+    m.a = number();
+    m.b = number();
+    return m;
+}
+
 static void *list(size_t n, size_t size) {
     void *p = calloc(n + 1, size);
     if (p == NULL) {
@@ -47,8 +57,8 @@ static void *list(size_t n, size_t size) {
     return p;
 }
 
-/* Of call k; values at changing places are taken. */
-static double call(uint64_t kind, const double x[24], uint64_t k) {
+/* Of call k; values at changing places are taken. stiffness is a material's word, which stands among x but is no number. */
+static double call(uint64_t kind, uint32_t stiffness, const double x[24], uint64_t k) {
     double v[DEL_FEM_ENERGY_VALUES], a[4][3], b[4][3], p[3][2];
     uint64_t at = k % 81;
     memcpy(p, x, sizeof p);
@@ -67,11 +77,11 @@ static double call(uint64_t kind, const double x[24], uint64_t k) {
     case 4:
         memcpy(a, x, 9 * sizeof *x);
         memcpy(b, x + 9, 9 * sizeof *x);
-        del_fem_stvk_tri3_wdwddw_((const double (*)[3])a, (const double (*)[3])b, x[18], x[19], v);
+        del_fem_stvk_tri3_wdwddw_((const double (*)[3])a, (const double (*)[3])b, stiffness, x[19], x[20], x[21], x[22], v);
         return v[0] + v[1 + at % 9] + v[10 + at];
     case 5:
         memcpy(b, x + 6, 9 * sizeof *x);
-        del_fem_mitc_tri3_w_dw_ddw_plate_bending((const double (*)[2])p, (const double (*)[3])b, x[15], x[16], x[17], v);
+        del_fem_mitc_tri3_w_dw_ddw_plate_bending((const double (*)[2])p, (const double (*)[3])b, stiffness, x[16], x[17], x[18], x[19], v);
         return v[0] + v[1 + at % 9] + v[10 + at];
     case 8:
         memcpy(b, x + 6, 9 * sizeof *x);
@@ -84,14 +94,16 @@ static double call(uint64_t kind, const double x[24], uint64_t k) {
 
 static double kernel(uint64_t kind, uint64_t count) {
     double x[24], moved[24], s = 0, sum = 0;
+    uint64_t word;
     for (int i = 0; i < 24; i++) {
         x[i] = number();
     }
+    memcpy(&word, x + (kind == 4 ? 18 : 15), sizeof word);
     for (uint64_t k = 0; k < count; k++) {
         for (int i = 0; i < 24; i++) {
             moved[i] = x[i] + s;
         }
-        sum += call(kind, moved, k);
+        sum += call(kind, (uint32_t)word, moved, k);
         s += STEP;
     }
     return sum;
@@ -99,7 +111,8 @@ static double kernel(uint64_t kind, uint64_t count) {
 
 static double panel(uint64_t count) {
     size_t coordinates = whole(), names = whole(), places = coordinates / 2 * 3;
-    double thick = number(), rho = number(), s = 0, sum = 0;
+    del_fem_material m = material();
+    double s = 0, sum = 0;
     double *xy = list(coordinates, sizeof *xy), *mass = list(places, sizeof *mass);
     size_t *tri = list(names, sizeof *tri);
     for (size_t i = 0; i < coordinates; i++) {
@@ -109,7 +122,7 @@ static double panel(uint64_t count) {
         tri[i] = whole();
     }
     for (uint64_t k = 0; k < count; k++) {
-        del_fem_mitc_tri3_mass_lumped_plate_bending(tri, names, xy, coordinates, thick + s, rho, mass, places);
+        del_fem_mitc_tri3_mass_lumped_plate_bending(tri, names, xy, coordinates, m.stiffness, m.density, m.thickness + s, m.a, m.b, mass, places);
         sum += places == 0 ? 0 : mass[places - 1];
         s += STEP;
     }
@@ -121,7 +134,8 @@ static double panel(uint64_t count) {
 
 static double skin(uint64_t count) {
     size_t numbers = whole(), names = whole(), place;
-    double lambda = number(), myu = number(), w, s = 0, sum = 0;
+    del_fem_material m = material();
+    double w, s = 0, sum = 0;
     double *ini = list(numbers, sizeof *ini), *def = list(numbers, sizeof *def), *dw = list(numbers, sizeof *dw);
     size_t *tri = list(names, sizeof *tri);
     for (size_t i = 0; i < numbers; i++) {
@@ -134,7 +148,7 @@ static double skin(uint64_t count) {
         tri[i] = whole();
     }
     for (uint64_t k = 0; k < count; k++) {
-        del_fem_skin_wdw(ini, numbers, def, numbers, tri, names, lambda + s, myu, dw, numbers, &place, &w);
+        del_fem_skin_wdw(ini, numbers, def, numbers, tri, names, m.stiffness, m.density, m.thickness, m.a + s, m.b, dw, numbers, &place, &w);
         sum += w;
         sum += numbers == 0 ? 0 : dw[numbers - 1];
         s += STEP;

@@ -3,6 +3,8 @@
 pub const BENDING_VALUES: usize = 39;
 pub const STRAIN_VALUES: usize = 30;
 pub const ENERGY_VALUES: usize = 91;
+pub const LAME: u32 = 2;
+pub const YOUNG: u32 = 3;
 pub const NO_NAME: usize = 0xffff_ffff;
 pub const WORDS: usize = 64;
 
@@ -29,16 +31,21 @@ extern "C" {
     pub fn del_fem_stvk_tri3_wdwddw_(
         p0: *const [[f64; 3]; 3],
         p1: *const [[f64; 3]; 3],
-        lambda: f64,
-        myu: f64,
+        stiffness: u32,
+        density: f64,
+        thickness: f64,
+        a: f64,
+        b: f64,
         values: *mut [f64; ENERGY_VALUES],
     ) -> u32;
     pub fn del_fem_mitc_tri3_w_dw_ddw_plate_bending(
         p: *const [[f64; 2]; 3],
         u: *const [[f64; 3]; 3],
-        thk: f64,
-        lambda: f64,
-        myu: f64,
+        stiffness: u32,
+        density: f64,
+        thickness: f64,
+        a: f64,
+        b: f64,
         values: *mut [f64; ENERGY_VALUES],
     ) -> u32;
     pub fn del_fem_mitc_tri3_mass_lumped_plate_bending(
@@ -46,8 +53,11 @@ extern "C" {
         tri2vtx_len: usize,
         vtx2xy: *const f64,
         vtx2xy_len: usize,
-        thick: f64,
-        rho: f64,
+        stiffness: u32,
+        density: f64,
+        thickness: f64,
+        a: f64,
+        b: f64,
         vtx2mass: *mut f64,
         vtx2mass_len: usize,
     ) -> u32;
@@ -58,8 +68,11 @@ extern "C" {
         vtx2def_len: usize,
         tri2vtx: *const usize,
         tri2vtx_len: usize,
-        lambda: f64,
-        myu: f64,
+        stiffness: u32,
+        density: f64,
+        thickness: f64,
+        a: f64,
+        b: f64,
         vtx2dw: *mut f64,
         vtx2dw_len: usize,
         place: *mut usize,

@@ -2,7 +2,8 @@
 //!
 //! Every routine is a safe call of a proved function (`../include/del_fem.h` says what each gives, `../docs/01-scope.md` by which rules). Where the original would
 //! panic or give numbers that mean nothing, the answer is a [`Refusal`]. Not the original's are two modules, [`skin`], which adds up what [`stvk_tri3::wdwddw_`]
-//! gives for many triangles, and [`mesh`], which reads points and triangles from a file; and [`stvk_tri3::wdw_green_lagrange`], a second strain.
+//! gives for many triangles, and [`mesh`], which reads points and triangles from a file; [`stvk_tri3::wdw_green_lagrange`], a second strain; and the [`Material`], one
+//! record where the original takes numbers one by one.
 //!
 //! # What it needs
 //!
@@ -11,8 +12,8 @@
 //!
 //! # Units
 //!
-//! Any that fit each other. With metres, kilograms and newtons the masses are in kg, Lame's parameters in N/m^2, a plate's energy in J; StVK's energy has no
-//! thickness in it and is for each metre of thickness.
+//! Any that fit each other. With metres, kilograms and newtons the masses are in kg, Lame's parameters and Young's modulus in N/m^2, a plate's energy in J; StVK's
+//! energy has no thickness in it and is for each metre of thickness.
 //!
 //! Masses take the area alone from the coordinates, which may thus have a unit of their own. With whole millimetres, a thickness in metres and a density in kg/m^3
 //! the masses are in milligrams (mm^2 m kg/m^3 = 10^-6 kg), the two for rotations in mg m^2; and since the coordinates are whole numbers, the masses are within a
@@ -24,11 +25,11 @@
 //! value:
 //!
 //! ```
-//! use del_fem::{mesh, mitc_tri3};
+//! use del_fem::{mesh, mitc_tri3, Material};
 //! use std::error::Error;
 //!
 //! /// Three masses for each point of a flat wall.
-//! fn masses(file: &[u8], thick: f64, rho: f64) -> Result<Vec<f64>, Box<dyn Error>> {
+//! fn masses(file: &[u8], material: Material) -> Result<Vec<f64>, Box<dyn Error>> {
 //!     let mesh::Mesh { points, triangles } = mesh::read(file)?;
 //!     let (block, cells) = (mesh::points(file)?, mesh::cells(file)?);
 //!     let at = |point, axis| mesh::coordinate(block, point, axis).expect("a coordinate");
@@ -41,22 +42,23 @@
 //!         .map(|i| mesh::name(cells, i / 3, i % 3).expect("a name"))
 //!         .collect();
 //!     let mut vtx2mass = vec![0.0; 3 * points];
-//!     mitc_tri3::mass_lumped_plate_bending(&tri2vtx, &vtx2xy, thick, rho, &mut vtx2mass)?;
+//!     mitc_tri3::mass_lumped_plate_bending(&tri2vtx, &vtx2xy, material, &mut vtx2mass)?;
 //!     Ok(vtx2mass)
 //! }
 //!
 //! // A square of 6 by 6 in two triangles: 36 mm^2 * 1 m * 2 kg/m^3 = 72 mg.
 //! let file = std::fs::read("../meshes/files/two.vtk")?;
-//! let vtx2mass = masses(&file, 1.0, 2.0)?;
+//! let vtx2mass = masses(&file, Material::lame(2.0, 1.0, 0.0, 1.0))?;
 //! assert_eq!(vtx2mass, [12.0, 1.0, 1.0, 24.0, 2.0, 2.0, 24.0, 2.0, 2.0, 12.0, 1.0, 1.0]);
 //! assert_eq!(vtx2mass.iter().step_by(3).sum::<f64>(), 72.0);
 //!
 //! let folded = std::fs::read("../meshes/files/folded.vtk")?;
-//! assert!(masses(&folded, 1.0, 2.0).is_err());
+//! assert!(masses(&folded, Material::STOCK_SHEET).is_err());
 //! # Ok::<(), Box<dyn Error>>(())
 //! ```
 
 mod ffi;
+mod material;
 pub mod mesh;
 pub mod mitc_tri3;
 pub mod quadratic_bending;
@@ -65,10 +67,11 @@ pub mod root;
 pub mod skin;
 pub mod stvk_tri3;
 
+pub use material::{Material, Stiffness};
 pub use refusal::Refusal;
 
 /// The version of the header that this crate is written after: 1000 times the major number and the minor one.
-pub const VERSION: u32 = 1000;
+pub const VERSION: u32 = 2000;
 
 /// The archive's: the crate may use one of the same major number and no lower minor one.
 ///

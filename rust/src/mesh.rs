@@ -3,7 +3,7 @@
 //! [`read`] counts, [`points`] and [`cells`] find the blocks, [`coordinate`] and [`name`] read in them. The three numbers of each point are what [`crate::skin`] takes:
 //!
 //! ```
-//! use del_fem::{mesh, skin};
+//! use del_fem::{mesh, skin, Material};
 //!
 //! let file = std::fs::read("../meshes/files/folded.vtk")?;
 //! let mesh::Mesh { points, triangles } = mesh::read(&file)?;
@@ -15,7 +15,7 @@
 //!     .map(|i| mesh::name(cells, i / 3, i % 3).expect("a name"))
 //!     .collect();
 //! let mut vtx2dw = vec![0.0; 3 * points];
-//! let w = skin::wdw(&vtx2xyz, &vtx2xyz, &tri2vtx, 1.0, 1.0, &mut vtx2dw)?;
+//! let w = skin::wdw(&vtx2xyz, &vtx2xyz, &tri2vtx, Material::STOCK_SHEET, &mut vtx2dw)?;
 //! assert_eq!(w, 0.0); // at rest
 //! # Ok::<(), Box<dyn std::error::Error>>(())
 //! ```

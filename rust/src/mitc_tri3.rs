@@ -4,7 +4,7 @@
 //! no word said. So test that all z are one value before you take x and y ([the whole way](crate#from-a-mesh-file-to-masses)):
 //!
 //! ```
-//! use del_fem::mitc_tri3::mass_lumped_plate_bending;
+//! use del_fem::{mitc_tri3::mass_lumped_plate_bending, Material};
 //!
 //! let upright = [[0.0, 0.0, 0.0], [6.0, 0.0, 0.0], [0.0, 0.0, 6.0_f64]];
 //! let flat = upright.iter().all(|p| p[2] == upright[0][2]);
@@ -13,41 +13,52 @@
 //! // What comes without the test.
 //! let vtx2xy: Vec<f64> = upright.iter().flat_map(|p| [p[0], p[1]]).collect();
 //! let mut vtx2mass = [7.5; 9];
-//! mass_lumped_plate_bending(&[0, 1, 2], &vtx2xy, 1.0, 2.0, &mut vtx2mass)?;
+//! mass_lumped_plate_bending(&[0, 1, 2], &vtx2xy, Material::STOCK_SHEET, &mut vtx2mass)?;
 //! assert_eq!(vtx2mass, [0.0; 9]);
 //! # Ok::<(), del_fem::Refusal>(())
 //! ```
-use crate::{energy, ffi, Energy, Refusal};
+use crate::{energy, ffi, Energy, Material, Refusal};
 
-/// The energy of a plate of thickness `thk` over the plane corners `p`, with its gradient and Hessian by `u`: at each corner the displacement in z and the rotations
-/// about x and y. Each value carries the area's sign, which turns where the corners run clockwise. The energy in shear is the original's, four times that of plain
-/// plate theory where the two edges at corner 0 are perpendicular (`../docs/DIFFERENCES.md`).
+/// The energy of a plate over the plane corners `p`, with its gradient and Hessian by `u`: at each corner the displacement in z and the rotations about x and y. Each
+/// value carries the area's sign, which turns where the corners run clockwise. The energy in shear is the original's, four times that of plain plate theory where the
+/// two edges at corner 0 are perpendicular (`../docs/DIFFERENCES.md`). Of the material it looks at thickness and stiffness.
+///
+/// Refused are, in this order, a number that is not finite, a stiffness that no sheet can have, a divisor that is zero (a dot of the inverse), and an answer that is not
+/// finite.
 ///
 /// ```
-/// use del_fem::{mitc_tri3::w_dw_ddw_plate_bending, Refusal};
+/// use del_fem::{mitc_tri3::w_dw_ddw_plate_bending, Material, Refusal};
 ///
 /// let p = [&[0.0, 0.0], &[1.0, 0.0], &[0.0, 1.0]];
 /// let mut u = [[0.0; 3]; 3];
 /// u[1][0] = 1.0; // corner 1 is lifted
-/// let (w, _dw, _ddw) = w_dw_ddw_plate_bending(&p, &u, 2.0, 0.0, 1.0)?;
+/// let (w, _dw, _ddw) = w_dw_ddw_plate_bending(&p, &u, Material::lame(1400.0, 2.0, 0.0, 1.0))?;
 /// assert_eq!(w, 2.0);
 ///
-/// // Without thickness.
-/// assert_eq!(w_dw_ddw_plate_bending(&p, &u, 0.0, 0.0, 1.0), Err(Refusal::ZeroDivisor));
+/// let without = Material { thickness: 0.0, ..Material::STOCK_SHEET };
+/// assert_eq!(w_dw_ddw_plate_bending(&p, &u, without), Err(Refusal::ZeroDivisor));
 /// # Ok::<(), Refusal>(())
 /// ```
 pub fn w_dw_ddw_plate_bending(
     p: &[&[f64; 2]; 3],
     u: &[[f64; 3]; 3],
-    thk: f64,
-    lambda: f64,
-    myu: f64,
+    material: Material,
 ) -> Result<Energy, Refusal> {
     let p = p.map(|corner| *corner);
+    let (stiffness, a, b) = material.stiffness.crossing();
     let mut values = [0.0; ffi::ENERGY_VALUES];
     // SAFETY: references to arrays of the declared shapes, the lent one a local of its own.
     let number = unsafe {
-        ffi::del_fem_mitc_tri3_w_dw_ddw_plate_bending(&p, u, thk, lambda, myu, &mut values)
+        ffi::del_fem_mitc_tri3_w_dw_ddw_plate_bending(
+            &p,
+            u,
+            stiffness,
+            material.density,
+            material.thickness,
+            a,
+            b,
+            &mut values,
+        )
     };
     Refusal::of(number)?;
     Ok(energy(&values))
@@ -55,34 +66,36 @@ pub fn w_dw_ddw_plate_bending(
 
 /// The lumped masses of a panel into `vtx2mass`, three for each vertex: for its translation and its two rotations. `tri2vtx` names three vertices for each triangle,
 /// `vtx2xy` has x and y of each vertex: of a wall in space z has to be one value throughout, which is the caller's to test (see [the module](self)). A triangle whose
-/// corners run clockwise takes its mass away.
+/// corners run clockwise takes its mass away. Of the material it looks at density and thickness.
 ///
 /// After [`Refusal::BadAnswer`] the buffer is +0 throughout; [`Refusal::BadLength`], [`Refusal::BadName`] and [`Refusal::BadInput`] leave it as it was.
 ///
 /// ```
-/// use del_fem::{mitc_tri3::mass_lumped_plate_bending, Refusal};
+/// use del_fem::{mitc_tri3::mass_lumped_plate_bending, Material, Refusal};
 ///
 /// let vtx2xy = [0.0, 0.0, 6.0, 0.0, 0.0, 6.0, 6.0, 6.0]; // a square
+/// let material = Material::lame(2.0, 1.0, 0.0, 1.0);
 /// let mut vtx2mass = [0.0; 12];
-/// mass_lumped_plate_bending(&[0, 1, 2, 1, 3, 2], &vtx2xy, 1.0, 2.0, &mut vtx2mass)?;
+/// mass_lumped_plate_bending(&[0, 1, 2, 1, 3, 2], &vtx2xy, material, &mut vtx2mass)?;
 /// assert_eq!(vtx2mass, [12.0, 1.0, 1.0, 24.0, 2.0, 2.0, 24.0, 2.0, 2.0, 12.0, 1.0, 1.0]);
 ///
-/// mass_lumped_plate_bending(&[0, 2, 1], &vtx2xy, 1.0, 2.0, &mut vtx2mass)?; // clockwise
+/// mass_lumped_plate_bending(&[0, 2, 1], &vtx2xy, material, &mut vtx2mass)?; // clockwise
 /// assert_eq!(vtx2mass[..3], [-12.0, -1.0, -1.0]);
 ///
-/// let four = mass_lumped_plate_bending(&[0, 1, 2, 1], &vtx2xy, 1.0, 2.0, &mut vtx2mass);
+/// let sheet = Material::STOCK_SHEET;
+/// let four = mass_lumped_plate_bending(&[0, 1, 2, 1], &vtx2xy, sheet, &mut vtx2mass);
 /// assert_eq!(four, Err(Refusal::BadLength));
-/// let nowhere = mass_lumped_plate_bending(&[0, 1, 4], &vtx2xy, 1.0, 2.0, &mut vtx2mass);
+/// let nowhere = mass_lumped_plate_bending(&[0, 1, 4], &vtx2xy, sheet, &mut vtx2mass);
 /// assert_eq!(nowhere, Err(Refusal::BadName));
 /// # Ok::<(), Refusal>(())
 /// ```
 pub fn mass_lumped_plate_bending(
     tri2vtx: &[usize],
     vtx2xy: &[f64],
-    thick: f64,
-    rho: f64,
+    material: Material,
     vtx2mass: &mut [f64],
 ) -> Result<(), Refusal> {
+    let (stiffness, a, b) = material.stiffness.crossing();
     // SAFETY: each pointer comes with its slice's own length; the lent slice is borrowed alone.
     let number = unsafe {
         ffi::del_fem_mitc_tri3_mass_lumped_plate_bending(
@@ -90,8 +103,11 @@ pub fn mass_lumped_plate_bending(
             tri2vtx.len(),
             vtx2xy.as_ptr(),
             vtx2xy.len(),
-            thick,
-            rho,
+            stiffness,
+            material.density,
+            material.thickness,
+            a,
+            b,
             vtx2mass.as_mut_ptr(),
             vtx2mass.len(),
         )

@@ -1,13 +1,14 @@
 use crate::ffi;
 use std::fmt;
 
-/// Why a routine gives no numbers. Where several reasons hold, the one with the lowest number is given; of a skin's triangles the first that is refused gives its own.
+/// Why a routine gives no numbers. Where several reasons hold, the first in the order 1, 2, 3, 7, 4, 5 is given; of a skin's triangles the first that is refused gives
+/// its own.
 ///
 /// ```
-/// use del_fem::{mitc_tri3, Refusal};
+/// use del_fem::{mitc_tri3, Material, Refusal};
 ///
-/// let four_names = [0, 1, 2, 1];
-/// let answer = mitc_tri3::mass_lumped_plate_bending(&four_names, &[], 1.0, 2.0, &mut []);
+/// let (four_names, sheet) = ([0, 1, 2, 1], Material::STOCK_SHEET);
+/// let answer = mitc_tri3::mass_lumped_plate_bending(&four_names, &[], sheet, &mut []);
 /// let refusal = answer.unwrap_err();
 /// assert_eq!(refusal, Refusal::BadLength);
 /// assert_eq!(refusal.number(), 1);
@@ -22,6 +23,8 @@ pub enum Refusal {
     BadName,
     /// 3: a number that the routine reads is a NaN or an infinity.
     BadInput,
+    /// 7: a stiffness is none that a sheet can have.
+    BadStiffness,
     /// 4: a divisor is zero, of either sign.
     ZeroDivisor,
     /// 5: the finished answer has a NaN or an infinity in it.
@@ -39,6 +42,7 @@ impl Refusal {
             Self::BadLength => 1,
             Self::BadName => 2,
             Self::BadInput => 3,
+            Self::BadStiffness => 7,
             Self::ZeroDivisor => 4,
             Self::BadAnswer => 5,
             Self::BadFile => 8,
@@ -53,6 +57,7 @@ impl Refusal {
             1 => Err(Self::BadLength),
             2 => Err(Self::BadName),
             3 => Err(Self::BadInput),
+            7 => Err(Self::BadStiffness),
             4 => Err(Self::ZeroDivisor),
             5 => Err(Self::BadAnswer),
             8 => Err(Self::BadFile),
@@ -77,7 +82,7 @@ impl std::error::Error for Refusal {}
 mod tests {
     use super::Refusal;
 
-    const LISTED: [u32; 6] = [1, 2, 3, 4, 5, 8];
+    const LISTED: [u32; 7] = [1, 2, 3, 7, 4, 5, 8];
 
     #[test]
     fn every_number_but_0_is_a_refusal_that_says_it() {

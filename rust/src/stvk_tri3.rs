@@ -11,7 +11,7 @@
 //! assert_eq!(wdw_green_lagrange(&rest, &pulled)?.0, [1.5, 0.0, 0.0]);
 //! # Ok::<(), del_fem::Refusal>(())
 //! ```
-use crate::{blocks, energy, ffi, Energy, Refusal};
+use crate::{blocks, energy, ffi, Energy, Material, Refusal};
 
 /// Three strains, and their derivatives by strain, deformed corner and axis.
 pub type Strain = ([f64; 3], [[[f64; 3]; 3]; 3]);
@@ -65,31 +65,46 @@ fn strain(number: u32, values: &[f64; ffi::STRAIN_VALUES]) -> Result<Strain, Ref
     Ok((w, blocks(&values[3..])))
 }
 
-/// The StVK energy of a triangle with the corners `p0` at rest and `p1` deformed, with its gradient and Hessian by `p1`. No thickness enters.
+/// The StVK energy of a triangle with the corners `p0` at rest and `p1` deformed, with its gradient and Hessian by `p1`. Of the material it looks at the stiffness alone:
+/// no thickness enters.
+///
+/// Refused are, in this order, a number that is not finite, a stiffness that no sheet can have, a divisor that is zero (the rest normal's norm, a dot that scales a
+/// contravariant vector), and an answer that is not finite.
 ///
 /// ```
-/// use del_fem::{stvk_tri3::wdwddw_, Refusal};
+/// use del_fem::{stvk_tri3::wdwddw_, Material, Refusal};
 ///
 /// let rest = [[0.0, 0.0, 0.0], [1.0, 0.0, 0.0], [0.0, 1.0, 0.0]];
 /// let pulled = [[0.0, 0.0, 0.0], [2.0, 0.0, 0.0], [0.0, 1.0, 0.0]];
-/// let (w, dw, _ddw) = wdwddw_(rest, pulled, 0.0, 1.0)?;
+/// let (w, dw, _ddw) = wdwddw_(rest, pulled, Material::lame(1400.0, 0.5, 0.0, 1.0))?;
 /// assert_eq!(w, 1.125);
 /// assert_eq!(dw.map(|corner| corner[0]), [-3.0, 3.0, 0.0]); // in x
 ///
 /// // Rest corners on a line.
 /// let line = [[0.0, 0.0, 0.0], [1.0, 0.0, 0.0], [2.0, 0.0, 0.0]];
-/// assert_eq!(wdwddw_(line, pulled, 0.0, 1.0), Err(Refusal::ZeroDivisor));
+/// assert_eq!(wdwddw_(line, pulled, Material::STOCK_SHEET), Err(Refusal::ZeroDivisor));
 /// # Ok::<(), Refusal>(())
 /// ```
 pub fn wdwddw_(
     p0: [[f64; 3]; 3],
     p1: [[f64; 3]; 3],
-    lambda: f64,
-    myu: f64,
+    material: Material,
 ) -> Result<Energy, Refusal> {
+    let (stiffness, a, b) = material.stiffness.crossing();
     let mut values = [0.0; ffi::ENERGY_VALUES];
     // SAFETY: references to arrays of the declared shapes, the lent one a local of its own.
-    let number = unsafe { ffi::del_fem_stvk_tri3_wdwddw_(&p0, &p1, lambda, myu, &mut values) };
+    let number = unsafe {
+        ffi::del_fem_stvk_tri3_wdwddw_(
+            &p0,
+            &p1,
+            stiffness,
+            material.density,
+            material.thickness,
+            a,
+            b,
+            &mut values,
+        )
+    };
     Refusal::of(number)?;
     Ok(energy(&values))
 }

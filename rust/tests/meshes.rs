@@ -1,7 +1,7 @@
 //! Mesh files through the safe crate: the stored ones against the table in meshes/README.md, each beginning of one, and the way from a file to masses, which are
 //! those of a flat wall.
 use del_fem::mesh::{self, Mesh, Refused};
-use del_fem::{mitc_tri3, Refusal};
+use del_fem::{mitc_tri3, Material, Refusal};
 use std::error::Error;
 use std::path::PathBuf;
 
@@ -124,10 +124,11 @@ const SQUARE: [[f64; 3]; 4] = [
 ];
 const NAMES: [usize; 6] = [0, 1, 2, 1, 3, 2];
 
-/// Its masses for density 2 and thickness 1.
+/// Its masses, of the scope's density and thickness.
 const MASSES: [f64; 12] = [
     12.0, 1.0, 1.0, 24.0, 2.0, 2.0, 24.0, 2.0, 2.0, 12.0, 1.0, 1.0,
 ];
+const MATERIAL: Material = Material::lame(2.0, 1.0, 0.0, 1.0);
 
 type Wall = (Vec<[f64; 3]>, Vec<usize>);
 
@@ -149,7 +150,7 @@ fn wall(file: &[u8]) -> Result<Wall, Refused> {
 fn masses_in_plan((vtx2xyz, tri2vtx): &Wall) -> Result<Vec<f64>, Refusal> {
     let vtx2xy: Vec<_> = vtx2xyz.iter().flat_map(|p| [p[0], p[1]]).collect();
     let mut vtx2mass = vec![-7.5; 3 * vtx2xyz.len()];
-    mitc_tri3::mass_lumped_plate_bending(tri2vtx, &vtx2xy, 1.0, 2.0, &mut vtx2mass)?;
+    mitc_tri3::mass_lumped_plate_bending(tri2vtx, &vtx2xy, MATERIAL, &mut vtx2mass)?;
     Ok(vtx2mass)
 }
 

@@ -1,17 +1,20 @@
 //! Every routine on every stored record of its kind, against the oracle's answers, bit for bit (docs/REPLAY.md has the layout).
-use del_fem::{mitc_tri3, quadratic_bending, root, skin, stvk_tri3, Energy, Refusal};
+use del_fem::{mitc_tri3, quadratic_bending, root, skin, stvk_tri3, Energy, Material, Refusal};
 use std::path::Path;
 
 /// How many words follow a helper's number; the helpers themselves are not exported.
 const HELPER_INPUTS: [usize; 12] = [0, 6, 6, 6, 4, 3, 3, 6, 9, 9, 6, 9];
 
-/// The words of the records that are still to be read.
-struct Records<'a>(&'a [u8]);
+/// The bytes of the records that are still to be read, and how many Lame and how many Young materials there were.
+struct Records<'a> {
+    left: &'a [u8],
+    materials: [usize; 2],
+}
 
 impl Records<'_> {
     fn word(&mut self) -> Option<u64> {
-        let word = self.0.get(..8)?.try_into().expect("eight bytes");
-        self.0 = &self.0[8..];
+        let word = self.left.get(..8)?.try_into().expect("eight bytes");
+        self.left = &self.left[8..];
         Some(u64::from_be_bytes(word))
     }
 
@@ -29,6 +32,18 @@ impl Records<'_> {
 
     fn numbers(&mut self, n: usize) -> Option<Vec<f64>> {
         (0..n).map(|_| self.number()).collect()
+    }
+
+    fn material(&mut self) -> Option<Material> {
+        let stiffness = self.count()?;
+        let of = match stiffness {
+            2 => Material::lame,
+            3 => Material::young,
+            _ => panic!("no material has the word {stiffness}"),
+        };
+        self.materials[stiffness - 2] += 1;
+        let [density, thickness, a, b] = [(); 4].map(|()| self.number());
+        Some(of(density?, thickness?, a?, b?))
     }
 
     /// `N` points of `D` coordinates each.
@@ -106,24 +121,23 @@ fn strain_line(r: &mut Records, wdw: Strains) -> Option<Line> {
 
 fn stvk_line(r: &mut Records) -> Option<Line> {
     let (p0, p1) = (r.points()?, r.points()?);
-    let answer = stvk_tri3::wdwddw_(p0, p1, r.number()?, r.number()?);
+    let answer = stvk_tri3::wdwddw_(p0, p1, r.material()?);
     Some(kernel_line(answer, 91, flat_energy))
 }
 
 fn plate_line(r: &mut Records) -> Option<Line> {
     let (p, u) = (r.points::<2, 3>()?, r.points()?);
-    let (thk, lambda, myu) = (r.number()?, r.number()?, r.number()?);
-    let answer = mitc_tri3::w_dw_ddw_plate_bending(&[&p[0], &p[1], &p[2]], &u, thk, lambda, myu);
+    let answer = mitc_tri3::w_dw_ddw_plate_bending(&[&p[0], &p[1], &p[2]], &u, r.material()?);
     Some(kernel_line(answer, 91, flat_energy))
 }
 
 fn masses_line(r: &mut Records) -> Option<Line> {
     let (n, t, b) = (r.count()?, r.count()?, r.count()?);
-    let (thick, rho) = (r.number()?, r.number()?);
+    let material = r.material()?;
     let vtx2xy = r.numbers(n)?;
     let tri2vtx = r.counts(t)?;
     let mut mass = r.numbers(b)?;
-    let answer = mitc_tri3::mass_lumped_plate_bending(&tri2vtx, &vtx2xy, thick, rho, &mut mass);
+    let answer = mitc_tri3::mass_lumped_plate_bending(&tri2vtx, &vtx2xy, material, &mut mass);
     Some(line(
         answer.err().map_or(0, |refusal| refusal.number().into()),
         mass,
@@ -133,11 +147,11 @@ fn masses_line(r: &mut Records) -> Option<Line> {
 /// The line of a skin's energy, or of its refusal, with the place behind the number: 0 where there is none.
 fn skin_line(r: &mut Records) -> Option<Line> {
     let (n, m, t, b) = (r.count()?, r.count()?, r.count()?, r.count()?);
-    let (lambda, myu) = (r.number()?, r.number()?);
+    let material = r.material()?;
     let (vtx2ini, vtx2def) = (r.numbers(n)?, r.numbers(m)?);
     let tri2vtx = r.counts(t)?;
     let mut dw = r.numbers(b)?;
-    let answer = skin::wdw(&vtx2ini, &vtx2def, &tri2vtx, lambda, myu, &mut dw);
+    let answer = skin::wdw(&vtx2ini, &vtx2def, &tri2vtx, material, &mut dw);
     let (number, place, w) = match answer {
         Ok(w) => (0, 0, w),
         Err(refused) => (refused.refusal.number(), refused.place.unwrap_or(0), 0.0),
@@ -152,7 +166,10 @@ fn every_record_is_answered_as_the_oracle_does() {
     let replay = Path::new(env!("CARGO_MANIFEST_DIR")).join("../crates/replay");
     let records = std::fs::read(replay.join("stdin")).expect("the records");
     let answers = std::fs::read_to_string(replay.join("stdout")).expect("the answers");
-    let mut records = Records(&records);
+    let mut records = Records {
+        left: &records,
+        materials: [0; 2],
+    };
     let mut ran = [0; 9];
     let mut answers = answers.lines().enumerate();
     for (at, want) in answers.by_ref().take_while(|(_, want)| *want != "?") {
@@ -183,4 +200,5 @@ fn every_record_is_answered_as_the_oracle_does() {
         ran[1..].iter().all(|&n| n > 0),
         "a kind has no record: {ran:?}"
     );
+    assert!(!records.materials.contains(&0), "no Lame or no Young");
 }
