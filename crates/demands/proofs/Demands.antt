@@ -3,6 +3,7 @@ use mathlib.Core.Path.{_∙_}
 use lib.Ieee.{binary64}
 use lib.ListN.{length}
 use Rattle.strain.specs.Strain.{restOf, restOfGreenLagrange}
+use Rattle.refusal.proofs.EnergyAnswer.{taken-never-3}
 use Rattle.root.proofs.RootOf.{nan-word}
 use Rattle.root.proofs.Unique as root
 use Rattle.quadratic_bending.proofs.BendingAnswer as bending
@@ -93,6 +94,8 @@ materials = record {
   stvk-young = λ p0 p1 density thickness e v r is. stvk.young-is-lame binary64 p0 p1 density thickness e v is;
   plate-young = λ p u density thickness e v r is. plate.young-is-lame binary64 p u density thickness e v is;
   skin-young = λ vtx2ini vtx2def tri2vtx before density thickness e v r is h. young.young-is-lame binary64 vtx2ini vtx2def e v h density thickness tri2vtx before is;
+  stvk-taken = λ p0 p1 density thickness e v is c h b. let t = stvk.young-taken binary64 p0 p1 density thickness e v is c h b in (t, rw t (taken-never-3 binary64 _ _));
+  plate-taken = λ p u density thickness e v is c h b. let t = plate.young-taken binary64 p u density thickness e v is c h b in (t, rw t (taken-never-3 binary64 _ _));
 }
 
 pub demands : Demands

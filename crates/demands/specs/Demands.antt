@@ -1,21 +1,23 @@
 -- The three demands on one page: what holds of whatever the routines' statements allow. That no input stops a routine or makes it read outside, and that it meets its statement, is what the check
 -- of its function says; the end theorems are here, and `demands` (proofs/Demands.antt) is their proof.
 use mathlib.Core.Path.{_≡_}
-use mathlib.Core.Bool.{true}
+use mathlib.Core.Bool.{true, false, _&&_}
 use mathlib.Core.List.{List}
 use mathlib.Core.Logic.{_↔_}
 use Prim.Native.Nat.{ℕ, _<_, _≤_}
 use lib.Ieee.{Float, nan, binary64, ofBits}
+use lib.Ieee.Scale.{finite}
 use lib.ListN.{length, replicate}
 use Rattle.float.specs.Lists.{cleared}
 use Rattle.float.specs.Ops.{Ops, ops}
-use Rattle.refusal.specs.Refusal.{accepted, badName, badAnswer, badStiffness, badFile, kernelRows, Exactly}
+use Rattle.refusal.specs.Refusal.{accepted, badName, badInput, badAnswer, badStiffness, badFile, kernelRows, Exactly}
+use Rattle.refusal.specs.Answers.{takenOf}
 use Rattle.refusal.specs.Listed.{ListedExactly}
 use Rattle.refusal.specs.declared.Energy.{Energy}
 use Rattle.refusal.specs.declared.Tests.{Tests}
-use Rattle.material.specs.Material.{isFiniteOf, lameOf, lameMaterial, youngMaterial}
+use Rattle.material.specs.Material.{isFiniteOf, lameOf, computed, isBadOf, lameMaterial, youngMaterial}
 use Rattle.material.specs.declared.Material.{Material}
-use Rattle.material.specs.declared.Stiffness.the-variants.{Lame, Young}
+use Rattle.material.specs.declared.Stiffness.the-variants.{Young}
 use Rattle.root.specs.Root.{IsRoot, SquareRoot, SquareRootWord}
 use Rattle.corners.specs.Plane as plane
 use Rattle.corners.specs.Space as space
@@ -161,7 +163,7 @@ module _ {A : Type 0} (number : A → ℕ) (Is : Material → A → Type 0) wher
   -- where 7 is not given and the computed pair is finite, the answer is that for the pair as Lamé's
   abbrev pub YoungIsLame : Type 0
   YoungIsLame = (density thickness e v : Float) (r : A) → Is (youngMaterial density thickness e v) r → let pair = lameOf binary64 (Young e v) in
-      isFiniteOf (Lame (pair .lambda) (pair .myu)) ≡ true → (number r ≡ badStiffness → ⊥) → Is (lameMaterial density thickness (pair .lambda) (pair .myu)) r
+      isFiniteOf (computed binary64 e v) ≡ true → (number r ≡ badStiffness → ⊥) → Is (lameMaterial density thickness (pair .lambda) (pair .myu)) r
 
 -- two materials that agree in what is used have one answer, whatever the rest is, a NaN too
 pub record Materials : Type 0 where
@@ -176,6 +178,15 @@ pub record Materials : Type 0 where
   pub plate-young : (p u : List (List Float)) → YoungIsLame (λ r. r .number) (plates.IsPlate binary64 p u)
   pub skin-young : (vtx2ini vtx2def : List Float) (tri2vtx : List ℕ) (before : List Float)
       → YoungIsLame {A = Skin × List Float} (λ answer. answer .0 .number) (λ m answer. IsSkin binary64 vtx2ini vtx2def tri2vtx m before (answer .0) (answer .1))
+  -- and whether the pair is finite or not: once all that is read is taken, the answer is that of the source's numbers on it, with 4 and 5, never 3
+  pub stvk-taken : (p0 p1 : List (List Float)) (density thickness e v : Float) {r : Energy} → stvks.IsStvk binary64 p0 p1 (youngMaterial density thickness e v) r
+      → let q0 = space.cornersOf p0 in let q1 = space.cornersOf p1 in
+      space.isFiniteOf q0 && space.isFiniteOf q1 ≡ true → isFiniteOf (Young e v) ≡ true → isBadOf binary64 (Young e v) ≡ false
+      → (r ≡ takenOf binary64 (stvks.divisorIsZero binary64 q0) (stvks.numbersOf binary64 q0 q1 (lameOf binary64 (Young e v)))) × (r .number ≡ badInput → ⊥)
+  pub plate-taken : (p u : List (List Float)) (density thickness e v : Float) {r : Energy} → plates.IsPlate binary64 p u (youngMaterial density thickness e v) r
+      → let q = plane.cornersOf p in let t = space.cornersOf u in
+      plane.isFiniteOf q && space.isFiniteOf t && finite thickness ≡ true → isFiniteOf (Young e v) ≡ true → isBadOf binary64 (Young e v) ≡ false
+      → (r ≡ takenOf binary64 (plates.divisorIsZero binary64 q thickness) (plates.numbersOf binary64 q t thickness (lameOf binary64 (Young e v)))) × (r .number ≡ badInput → ⊥)
 
 pub record Demands : Type 0 where
   pub demand-1 : Demand1

@@ -6,11 +6,12 @@ use Prim.Native.Nat.{ℕ}
 use native.Mathlib.Omega.{arith}
 use lib.Dec.{eqb}
 use lib.IntN.{ℤ, pos}
-use lib.Ieee.{Float, nan, inf, fin, Format, binary32, binary64, ofBits, unlike, lt, mul, round}
+use lib.Ieee.{Float, nan, inf, fin, Format, binary32, binary64, unlike, lt, mul, round}
 use lib.Ieee.Fits.{down-pos}
 use lib.Ieee.Scale.{finite, round-same}
 use borrow.Author.Tests.{eqb-true, eqb-false, ne-eqb, not-false}
 use Rattle.float.specs.Ops.{Ops, ops}
+use Rattle.float.proofs.Bits.{zero-is}
 use Rattle.refusal.specs.Refusal.{badStiffness, kernelNumber}
 use Rattle.refusal.proofs.KernelNumber.{seven-exactly}
 use Rattle.material.specs.Material.{lameWord, youngWord, isFiniteOf, isBadOf, testedOf, ofWord, BadWord}
@@ -18,11 +19,6 @@ use Rattle.material.specs.declared.Stiffness.the-variants.{Lame, Young}
 
 abbrev nought : Bool → Float
 nought s = fin s 0 (pos 0)
-
-zero-is : (f : Format) → ops f .zero ≡ nought false
-unfolding ofBits
-zero-is binary32 = refl
-zero-is binary64 = refl
 
 zero-rounded : (f : Format) (s : Bool) → round f s 0 1 ≡ nought s
 unfolding round

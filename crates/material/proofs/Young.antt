@@ -1,7 +1,7 @@
 -- Young's modulus and Poisson's ratio against the Lamé pair that is computed of them: a finite pair comes of finite numbers, so where 7 is not given both are refused alike.
 use mathlib.Core.Path.{_≡_, refl, ap}
 use mathlib.Core.Bool.{Bool, true, false}
-use mathlib.Core.List.{List, [], _∷_}
+use mathlib.Core.List.{List}
 use Prim.Native.Nat.{ℕ}
 use denote.Floats.{passes}
 use lib.Ieee.{Float, Format}
@@ -10,13 +10,13 @@ use lib.Ieee.Scale.{finite}
 use Rattle.float.specs.Ops.{Ops, ops}
 use Rattle.float.proofs.Finite.{mul-finite, dividend-finite}
 use Rattle.float.proofs.Scan.{both}
-use Rattle.refusal.specs.Refusal.{badStiffness, zeroDivisor, badAnswer, _⇒_, firstOf, kernelNumber}
-use Rattle.refusal.specs.Answers.{badEnergyOf, energyOf}
+use Rattle.refusal.specs.Refusal.{badStiffness, firstOf, kernelNumber}
+use Rattle.refusal.specs.Answers.{badEnergyOf, energyOf, takenOf}
 use Rattle.refusal.specs.declared.Energy.{Energy}
-use Rattle.material.specs.Material.{isFiniteOf, lameOf, isBadOf, testedOf}
+use Rattle.material.specs.Material.{isFiniteOf, lameOf, computed, isBadOf, testedOf}
 use Rattle.material.specs.declared.LamePair.{LamePair}
 use Rattle.material.specs.declared.Stiffness.{Stiffness}
-use Rattle.material.specs.declared.Stiffness.the-variants.{Lame, Young}
+use Rattle.material.specs.declared.Stiffness.the-variants.{Young}
 
 -- a kernel's number by its tests
 abbrev numberBy : (input stiffness zero answer : Bool) → ℕ
@@ -38,19 +38,15 @@ module _ (f : Format) (e v : Float) where
   abbrev pair : LamePair
   pair = lameOf f (Young e v)
 
-  -- the computed pair, as a stiffness of its own
-  abbrev pub computed : Stiffness
-  computed = Lame (pair .lambda) (pair .myu)
-
-  computed-finite : isFiniteOf computed ≡ true → isFiniteOf (Young e v) ≡ true
+  computed-finite : isFiniteOf (computed f e v) ≡ true → isFiniteOf (Young e v) ≡ true
   unfolding isFiniteOf lameOf
   computed-finite h =
       let lambda = passes (finite (pair .lambda)) (both (finite (pair .lambda)) (finite (pair .myu)) h .0) in
       let t = mul-finite f e v (dividend-finite f (e ⊗ v) ((one ⊕ v) ⊗ (one ⊖ two ⊗ v)) lambda) in
       rw (is-true (finite e) (t .0), is-true (finite v) (t .1))
 
-  same-number : (others zero answer : Bool) → isFiniteOf computed ≡ true → (kernelNumber (testedOf f (Young e v) others zero answer) ≡ badStiffness → ⊥)
-      → kernelNumber (testedOf f (Young e v) others zero answer) ≡ kernelNumber (testedOf f computed others zero answer)
+  same-number : (others zero answer : Bool) → isFiniteOf (computed f e v) ≡ true → (kernelNumber (testedOf f (Young e v) others zero answer) ≡ badStiffness → ⊥)
+      → kernelNumber (testedOf f (Young e v) others zero answer) ≡ kernelNumber (testedOf f (computed f e v) others zero answer)
   unfolding testedOf isBadOf
   same-number others zero answer h other = rw (computed-finite h, h) (not-7 _ _ zero answer (rw (computed-finite h) at other))
 
@@ -62,12 +58,12 @@ module _ (f : Format) (e v : Float) where
         energyOf f (kernelNumber (testedOf f stiffness others zero (badEnergyOf w dw ddw))) w dw ddw
 
     -- THE law that joins the two: what is answered for E and v is what is answered for the pair
-    pub young-lame : isFiniteOf computed ≡ true → (answer (Young e v) .number ≡ badStiffness → ⊥) → answer (Young e v) ≡ answer computed
+    pub young-lame : isFiniteOf (computed f e v) ≡ true → (answer (Young e v) .number ≡ badStiffness → ⊥) → answer (Young e v) ≡ answer (computed f e v)
     unfolding lameOf energyOf
     young-lame h other = let (w, dw, ddw) = numbers pair in ap (λ number. energyOf f number w dw ddw) (same-number others zero (badEnergyOf w dw ddw) h other)
 
-    -- once E and v are taken the pair is not looked at, finite or not: 4 and 5 are left, by the kernel's own numbers on it
+    -- once E and v are taken the pair is not looked at, finite or not
     pub young-taken : others ≡ true → isFiniteOf (Young e v) ≡ true → isBadOf f (Young e v) ≡ false
-        → let (w, dw, ddw) = numbers pair in answer (Young e v) ≡ energyOf f (firstOf (zero ⇒ zeroDivisor ∷ badEnergyOf w dw ddw ⇒ badAnswer ∷ [])) w dw ddw
+        → answer (Young e v) ≡ takenOf f zero (numbers pair)
     unfolding testedOf kernelNumber firstOf
     young-taken o h b = rw (o, h, b)

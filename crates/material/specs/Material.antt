@@ -36,10 +36,14 @@ module _ (f : Format) where
 
   infixl 75 _⊕_ _⊖_
   infixl 80 _⊗_ _⊘_
-  -- lambda and myu, of Young's modulus and Poisson's ratio in the request's order
+  -- lambda and myu, of Young's modulus E and Poisson's ratio v in the request's order
   unfoldable pub lameOf : Stiffness → LamePair
   lameOf (Lame lambda myu) = record { lambda = lambda; myu = myu }
   lameOf (Young e v) = record { lambda = e ⊗ v ⊘ ((one ⊕ v) ⊗ (one ⊖ two ⊗ v)); myu = e ⊘ (two ⊗ (one ⊕ v)) }
+
+  -- the pair that is computed of E and v, as a stiffness of its own
+  abbrev pub computed : (e v : Float) → Stiffness
+  computed e v = let pair = lameOf (Young e v) in Lame (pair .lambda) (pair .myu)
 
   -- none that a sheet can have (01-scope 2.1: 7)
   unfoldable pub isBadOf : Stiffness → Bool

@@ -2,34 +2,28 @@
 -- Poisson's ratio is the Lamé pair that is computed of them.
 use mathlib.Core.Path.{_≡_, _∙_}
 use mathlib.Core.Bool.{true, false, _&&_}
-use mathlib.Core.List.{List, [], _∷_}
+use mathlib.Core.List.{List}
 use lib.Ieee.{Float, Format}
 use lib.Ieee.Scale.{finite}
 use lib.ListN.{replicate}
 use Rattle.float.specs.Ops.{Ops, ops}
 use Rattle.float.proofs.Unique.{only}
-use Rattle.refusal.specs.Refusal.{accepted, badStiffness, zeroDivisor, badAnswer, _⇒_, firstOf, kernelRows, Exactly}
-use Rattle.refusal.specs.Answers.{zeroDivisorOf, badEnergyOf, energyOf}
+use Rattle.refusal.specs.Refusal.{accepted, badStiffness, kernelRows, Exactly}
+use Rattle.refusal.specs.Answers.{takenOf}
 use Rattle.refusal.specs.declared.Energy.{Energy}
 use Rattle.refusal.specs.declared.Tests.{Tests}
 use Rattle.refusal.proofs.EnergyAnswer as energy
-use Rattle.material.specs.Material.{isFiniteOf, lameOf, isBadOf, lameMaterial, youngMaterial}
+use Rattle.material.specs.Material.{isFiniteOf, lameOf, computed, isBadOf, lameMaterial, youngMaterial}
 use Rattle.material.specs.declared.LamePair.{LamePair}
 use Rattle.material.specs.declared.Material.{Material}
 use Rattle.material.specs.declared.Stiffness.the-variants.{Young}
 use Rattle.material.proofs.Young as young
-use Rattle.material.proofs.Young.{computed}
 use Rattle.corners.specs.Plane as plane
 use Rattle.corners.specs.Space as space
-use Rattle.plate.specs.Plate.{guOf, wDwDdwPlateBendingOf}
-use Rattle.mitc_tri3.specs.Plate.{testsOf, plateOf, IsPlate}
+use Rattle.mitc_tri3.specs.Plate.{numbersOf, divisorIsZero, testsOf, plateOf, IsPlate}
 
 module _ (f : Format) (p u : List (List Float)) where
   open Ops (ops f) using (zero)
-
-  -- the source's numbers on lambda and myu
-  abbrev numbersOn : (thickness : Float) → LamePair → Float × List Float × List Float
-  numbersOn thickness pair = wDwDdwPlateBendingOf f (plane.cornersOf p) (space.cornersOf u) thickness (pair .lambda) (pair .myu)
 
   module _ (m : Material) where
     -- no second answer fits
@@ -50,7 +44,7 @@ module _ (f : Format) (p u : List (List Float)) where
       refused-values = energy.refused-values f tests _ _ _ is
 
       -- and where nothing is refused they are what the source returns
-      pub accepted-values : r .number ≡ accepted → let (w, dw, ddw) = numbersOn (m .thickness) (lameOf f (m .stiffness)) in (r .w ≡ w) × (r .dw ≡ dw) × (r .ddw ≡ ddw)
+      pub accepted-values : r .number ≡ accepted → let (w, dw, ddw) = numbersOf f (plane.cornersOf p) (space.cornersOf u) (m .thickness) (lameOf f (m .stiffness)) in (r .w ≡ w) × (r .dw ≡ dw) × (r .ddw ≡ ddw)
       unfolding plateOf
       accepted-values = energy.accepted-values f tests _ _ _ is
 
@@ -59,17 +53,19 @@ module _ (f : Format) (p u : List (List Float)) where
   looked-at m n t e a b = only a (rw (t, e) b)
 
   module _ (density thickness e v : Float) {r : Energy} (is : IsPlate f p u (youngMaterial density thickness e v) r) where
+    abbrev numbers : LamePair → Float × List Float × List Float
+    numbers = numbersOf f (plane.cornersOf p) (space.cornersOf u) thickness
+
     abbrev pair : LamePair
     pair = lameOf f (Young e v)
 
     -- THE theorem of Young's modulus and Poisson's ratio: where 7 is not given and the computed pair is finite, the answer is that for the pair
     pub young-is-lame : isFiniteOf (computed f e v) ≡ true → (r .number ≡ badStiffness → ⊥) → IsPlate f p u (lameMaterial density thickness (pair .lambda) (pair .myu)) r
     unfolding testsOf plateOf
-    young-is-lame h other = is ∙ young.young-lame f e v _ _ (numbersOn thickness) h (rw is at other)
+    young-is-lame h other = is ∙ young.young-lame f e v _ _ numbers h (rw is at other)
 
-    -- and finite or not: once E and v are taken, 4 and 5 are left, never 3, by the source's numbers on the pair
+    -- finite or not: once E and v are taken, 4 and 5 are left, never 3 (`taken-never-3`), by the source's numbers on the pair
     pub young-taken : plane.isFiniteOf (plane.cornersOf p) && space.isFiniteOf (space.cornersOf u) && finite thickness ≡ true → isFiniteOf (Young e v) ≡ true → isBadOf f (Young e v) ≡ false
-        → let gu = guOf f (plane.cornersOf p) thickness in let (w, dw, ddw) = numbersOn thickness pair in
-        r ≡ energyOf f (firstOf (zeroDivisorOf (gu .x .by) (gu .y .by) (gu .z .by) ⇒ zeroDivisor ∷ badEnergyOf w dw ddw ⇒ badAnswer ∷ [])) w dw ddw
+        → r ≡ takenOf f (divisorIsZero f (plane.cornersOf p) thickness) (numbers pair)
     unfolding testsOf plateOf
-    young-taken c h b = is ∙ young.young-taken f e v _ _ (numbersOn thickness) c h b
+    young-taken c h b = is ∙ young.young-taken f e v _ _ numbers c h b

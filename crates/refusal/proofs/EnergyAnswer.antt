@@ -1,15 +1,27 @@
 -- What a kernel that answers an energy says, in the scope's words: each number exactly where its test holds and that of no earlier one does; +0 after a refusal, else the values.
 use mathlib.Core.Path.{_≡_}
-use mathlib.Core.List.{List}
+use mathlib.Core.Bool.{Bool, true, false}
+use mathlib.Core.List.{List, [], _∷_}
+use native.Mathlib.Omega.{arith}
 use lib.Ieee.{Float, Format}
 use lib.ListN.{replicate}
 use borrow.Author.Tests.{eq-eqb, ne-eqb}
 use Rattle.float.specs.Ops.{Ops, ops}
-use Rattle.refusal.specs.Answers.{energyOf}
-use Rattle.refusal.specs.Refusal.{accepted, kernelRows, kernelNumber, Exactly}
+use Rattle.refusal.specs.Answers.{badEnergyOf, energyOf, takenOf}
+use Rattle.refusal.specs.Refusal.{accepted, badInput, zeroDivisor, badAnswer, _⇒_, firstOf, kernelRows, kernelNumber, Exactly}
 use Rattle.refusal.specs.declared.Energy.{Energy}
 use Rattle.refusal.specs.declared.Tests.{Tests}
 use Rattle.refusal.proofs.KernelNumber.{kernel-exactly}
+
+-- 3 is not among what is left
+pub taken-never-3 : (f : Format) (zero : Bool) (numbers : Float × List Float × List Float) → takenOf f zero numbers .number ≡ badInput → ⊥
+unfolding energyOf firstOf
+taken-never-3 f zero (w, dw, ddw) = never zero (badEnergyOf w dw ddw)
+  where
+    never : (zero answer : Bool) → firstOf (zero ⇒ zeroDivisor ∷ answer ⇒ badAnswer ∷ []) ≡ badInput → ⊥
+    never true answer e = omega (arith, e)
+    never false true e = omega (arith, e)
+    never false false e = omega (arith, e)
 
 module _ (f : Format) (t : Tests) (w : Float) (dw ddw : List Float) {r : Energy} (is : r ≡ energyOf f (kernelNumber t) w dw ddw) where
   open Ops (ops f) using (zero)

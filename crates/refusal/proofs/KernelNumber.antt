@@ -15,10 +15,10 @@ kernel-exactly t = exactly (kernelRows t) refl
 
 -- 7 exactly where the numbers are finite and the stiffness is bad
 pub seven-exactly : (t : Tests) → kernelNumber t ≡ badStiffness ↔ ((t .«bad_input» ≡ false) × (t .«bad_stiffness» ≡ true))
-seven-exactly t = ((λ e. there (exactly .0 e)), λ h. exactly .1 (inr (h .0, inl (h .1, refl))))
+seven-exactly t = ((λ e. there (given .0 e)), λ h. given .1 (inr (h .0, inl (h .1, refl))))
   where
-    exactly : kernelNumber t ≡ badStiffness ↔ Cause badStiffness (kernelRows t)
-    exactly = kernel-exactly t .refused-exactly badStiffness (λ (e : badStiffness ≡ accepted). omega arith)
+    given : kernelNumber t ≡ badStiffness ↔ Cause badStiffness (kernelRows t)
+    given = kernel-exactly t .refused-exactly badStiffness (λ (e : badStiffness ≡ accepted). omega arith)
 
     there : Cause badStiffness (kernelRows t) → (t .«bad_input» ≡ false) × (t .«bad_stiffness» ≡ true)
     there (inl (_, e)) = absurd (omega (arith, e))

@@ -1,6 +1,6 @@
 -- Tests and answers that several kernels share (01-scope 2.1): the values where nothing is refused, +0 throughout after a refusal.
 use mathlib.Core.Bool.{Bool, cond, not, _&&_, _||_}
-use mathlib.Core.List.{List}
+use mathlib.Core.List.{List, [], _∷_}
 use Prim.Native.Nat.{ℕ}
 use lib.Dec.{eqb}
 use lib.Ieee.{Float, Format}
@@ -9,7 +9,7 @@ use lib.ListN.{replicate}
 use Rattle.float.specs.Lists.{allFinite}
 use Rattle.float.specs.Numbers.{isZero}
 use Rattle.float.specs.Ops.{Ops, ops}
-use Rattle.refusal.specs.Refusal.{accepted}
+use Rattle.refusal.specs.Refusal.{accepted, zeroDivisor, badAnswer, _⇒_, firstOf}
 use Rattle.refusal.specs.declared.Energy.{Energy}
 
 -- one of a kernel's three divisors is zero
@@ -28,3 +28,7 @@ module _ (f : Format) where
   energyOf number w dw ddw =
       let keep = eqb number accepted in
       record { number = number; w = cond keep w zero; dw = cond keep dw (replicate 9 zero); ddw = cond keep ddw (replicate 81 zero) }
+
+  -- what is answered once all that is read is taken: 4 and 5 are left, by the divisors and the numbers
+  abbrev pub takenOf : (zero : Bool) (numbers : Float × List Float × List Float) → Energy
+  takenOf zero (w, dw, ddw) = energyOf (firstOf (zero ⇒ zeroDivisor ∷ badEnergyOf w dw ddw ⇒ badAnswer ∷ [])) w dw ddw

@@ -55,7 +55,7 @@ pub(crate) fn answer(kind: u64, x: [f64; 24]) {
     }
 }
 
-pub(crate) fn answer_of(kind: u64, x: [f64; 24], material: Material) {
+pub(crate) fn answer_with(kind: u64, x: [f64; 24], material: Material) {
     match kind {
         STVK => put_energy(stvk_tri3::wdwddw_(
             input::triangle(x, 0),

@@ -54,7 +54,7 @@ fn replay_material(kind: u64, count: usize) -> bool
     let known = filled & read.ok;
     if known {
         let material = read.material;
-        kernels::answer_of(kind, x, material);
+        kernels::answer_with(kind, x, material);
         output::end_line();
     }
     known

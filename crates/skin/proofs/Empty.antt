@@ -3,11 +3,12 @@ use mathlib.Core.Path.{_≡_, refl}
 use mathlib.Core.Bool.{true, false}
 use mathlib.Core.List.{List, []}
 use Prim.Native.Nat.{ℕ}
-use lib.Ieee.{Float, Format, binary32, binary64, ofBits}
+use lib.Ieee.{Float, Format}
 use lib.Ieee.Scale.{finite}
 use lib.ListN.{length}
 use Rattle.float.specs.Lists.{cleared, every, foldThrees, mapThrees}
 use Rattle.float.specs.Ops.{ops}
+use Rattle.float.proofs.Bits.{zero-is}
 use Rattle.float.proofs.Scan.{every-same}
 use Rattle.refusal.specs.Refusal.{accepted}
 use Rattle.skin.specs.Sums.{Kernel, energyOf, gradientOf}
@@ -16,9 +17,7 @@ use Rattle.skin.specs.declared.Skin.{Skin}
 use Rattle.skin.proofs.SkinAnswer.{numbers-exactly, accepted-sums}
 
 zero-finite : (f : Format) → finite (ops f .zero) ≡ true
-unfolding ofBits
-zero-finite binary32 = refl
-zero-finite binary64 = refl
+zero-finite f = rw (zero-is f)
 
 module _ (f : Format) (answer : Kernel) (ini def : ℕ) (before : List Float) {r : Skin} {after : List Float} (is : IsSkinOver f answer ini def [] before r after) where
   sums-finite : badSumOf (energyOf f answer []) (gradientOf f answer [] (length before)) ≡ false

@@ -1,6 +1,6 @@
 -- Young's modulus with Poisson's ratio is to a skin the Lamé pair that is computed of them: where they are taken, triangle by triangle; and else because a first triangle that is refused decides.
 use mathlib.Core.Path.{_≡_, refl, ap, sym, subst, _∙_, fun-ext}
-use mathlib.Core.Bool.{Bool, true, false, true≢false}
+use mathlib.Core.Bool.{Bool, true, false, true≢false, _&&_}
 use mathlib.Core.List.{List, [], _∷_}
 use mathlib.Core.Logic.{_⊎_, inl, inr}
 use Prim.Native.Nat.{ℕ}
@@ -9,14 +9,17 @@ use lib.ListN.{length}
 use borrow.Author.Tests.{ne-eqb}
 use Rattle.float.specs.Lists.{mapThrees, foldThrees}
 use Rattle.refusal.specs.Refusal.{accepted, badStiffness, Row, firstOf}
+use Rattle.refusal.specs.Answers.{takenOf}
 use Rattle.refusal.specs.declared.Energy.{Energy}
 use Rattle.refusal.specs.Left.{leftOf}
 use Rattle.refusal.specs.Listed.{firstRefusal, firstPlace, listedNumber, listedPlace}
 use Rattle.refusal.proofs.ListedNumber.{refuses, by-early, by-answer}
-use Rattle.material.specs.Material.{isFiniteOf, lameOf, isBadOf, lameMaterial, youngMaterial}
+use Rattle.material.specs.Material.{isFiniteOf, lameOf, computed, isBadOf, lameMaterial, youngMaterial}
 use Rattle.material.specs.declared.Stiffness.the-variants.{Young}
-use Rattle.material.proofs.Young.{computed}
-use Rattle.stvk_tri3.proofs.EnergyAnswer.{young-stvk}
+use Rattle.corners.specs.Space.{isFiniteOf as cornersFinite}
+use Rattle.places.specs.Space.{cornersAt}
+use Rattle.stvk_tri3.specs.Stvk.{divisorIsZero, numbersOf as stvkNumbers}
+use Rattle.stvk_tri3.proofs.EnergyAnswer.{young-stvk, stvk-taken}
 use Rattle.skin.specs.Sums.{Kernel, numbersOf, energyOf, gradientOf}
 use Rattle.skin.specs.Skin.{earlyOf, lateOf, skinOf, answerOf, IsSkinOver, IsSkin}
 use Rattle.skin.specs.Parts.{refusedOf}
@@ -99,3 +102,10 @@ module _ (f : Format) (vtx2ini vtx2def : List Float) (e v : Float) (h : isFinite
       split : (b : Bool) → isBadOf f (Young e v) ≡ b → IsSkinOver f lame (length vtx2ini) (length vtx2def) tri2vtx before r after
       split true bad = refused bad _ _ tri2vtx before is other
       split false good = subst (λ (K : Kernel). IsSkinOver f K (length vtx2ini) (length vtx2def) tri2vtx before r after) (taken good) is
+
+-- finite or not: once E and v are taken, a triangle with finite corners has the source's numbers on the pair, with 4 and 5, never 3 (`taken-never-3`)
+pub triangle-taken : (f : Format) (vtx2ini vtx2def : List Float) (e v : Float) (i0 i1 i2 : ℕ) → let p0 = cornersAt vtx2ini i0 i1 i2 in let p1 = cornersAt vtx2def i0 i1 i2 in
+    cornersFinite p0 && cornersFinite p1 ≡ true → isFiniteOf (Young e v) ≡ true → isBadOf f (Young e v) ≡ false
+    → answerOf f vtx2ini vtx2def (Young e v) i0 i1 i2 ≡ takenOf f (divisorIsZero f p0) (stvkNumbers f p0 p1 (lameOf f (Young e v)))
+unfolding answerOf
+triangle-taken f vtx2ini vtx2def e v i0 i1 i2 = stvk-taken f _ _ e v
