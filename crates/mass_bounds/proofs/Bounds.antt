@@ -51,12 +51,12 @@ module _ (f : Format) {B R N : ℕ} (m : Margins f B R N) (tri2vtx : List ℕ) (
   masses = massesOf f tri2vtx vtx2xy thick rho before
 
   -- ---- the masses of a panel in range, whether or not they are accepted
-  module _ (size : length before ≡ vertices * 3) (below : namesBelow vertices tri2vtx ≡ true) (few : length tri2vtx ≤ N) where
+  module _ (threes : length tri2vtx % 3 ≡ 0) (size : length before ≡ vertices * 3) (below : namesBelow vertices tri2vtx ≡ true) (few : length tri2vtx ≤ N) where
     masses-near : NearExact f tri2vtx vtx2xy thick rho masses
     masses-near = record {
       sized = masses-sized f tri2vtx vtx2xy thick rho before size below;
       numbers = every-iff (isNumber f) masses nan .1 place;
-      near = λ v k h k3. rw (holds v k h k3) (vertex f m tri2vtx vtx2xy thick rho few range v k .1);
+      near = λ v k h k3. rw (holds v k h k3) (vertex f m tri2vtx vtx2xy thick rho threes few range v k .1);
     }
       where
         holds : (v k : ℕ) → v < vertices → k < 3 → masses ! (v * 3 + k) ≡ total f (shareOf f k thick rho) (trianglesOf v tri2vtx vtx2xy)
@@ -66,7 +66,7 @@ module _ (f : Format) {B R N : ℕ} (m : Margins f B R N) (tri2vtx : List ℕ) (
         place j h =
             let s : length masses ≡ vertices * 3 = masses-sized f tri2vtx vtx2xy thick rho before size below in
             let e : j / 3 * 3 + j % 3 ≡ j = omega arith in
-            let v = vertex f m tri2vtx vtx2xy thick rho few range (j / 3) (j % 3) in
+            let v = vertex f m tri2vtx vtx2xy thick rho threes few range (j / 3) (j % 3) in
             rw (← holds (j / 3) (j % 3) (omega arith) (omega arith), e) at (number-iff f _ .1 (v .0))
 
     masses-finite : allFinite masses ≡ true
@@ -86,7 +86,7 @@ module _ (f : Format) {B R N : ℕ} (m : Margins f B R N) (tri2vtx : List ℕ) (
     accepts : badLengthOf vertices (length tri2vtx) (length before) ≡ false → namesBelow vertices tri2vtx ≡ true → r ≡ accepted
     accepts lengths below =
         numbers-exactly f tri2vtx vtx2xy material before is .accepted-exactly .1
-        (lengths, (rw below, (inputs-good, (rw (masses-finite (sized _ _ _ lengths .1) below (few lengths)), tt))))
+        (lengths, (rw below, (inputs-good, (rw (masses-finite (sized _ _ _ lengths .0) (sized _ _ _ lengths .1) below (few lengths)), tt))))
 
     named : r ≡ accepted → namesBelow vertices tri2vtx ≡ true
     named e = not-false _ (numbers-exactly f tri2vtx vtx2xy material before is .accepted-exactly .0 e .1 .0)
@@ -94,7 +94,7 @@ module _ (f : Format) {B R N : ℕ} (m : Margins f B R N) (tri2vtx : List ℕ) (
     near : r ≡ accepted → NearExact f tri2vtx vtx2xy thick rho after
     near e =
         let lengths = numbers-exactly f tri2vtx vtx2xy material before is .accepted-exactly .0 e .0 in
-        rw (accepted-masses f tri2vtx vtx2xy material before is e) (masses-near (sized _ _ _ lengths .1) (named e) (few lengths))
+        rw (accepted-masses f tri2vtx vtx2xy material before is e) (masses-near (sized _ _ _ lengths .0) (sized _ _ _ lengths .1) (named e) (few lengths))
 
     pub demand : Demand3 f tri2vtx vtx2xy thick rho before r after
     demand = record {

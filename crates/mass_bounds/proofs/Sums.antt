@@ -15,11 +15,11 @@ use Rattle.rounding.specs.Exact.{Num, Equal, _⊠_, scale, sizeOf, value}
 use Rattle.rounding.specs.Sums.{sumOf, exactSum, sumTo, exactSumTo}
 use Rattle.rounding.proofs.Error.{within-more, within-change, within-all}
 use Rattle.rounding.proofs.ExactSums.{sum-append, sum-product, sizes-product, sumTo-add, sumTo-same, sumTo-zero, sumTo-one, le-greatest}
-use Rattle.places.specs.Plane.{verticesOf, cornersAt}
+use Rattle.places.specs.Plane.{verticesOf, cornersAt, triangles}
 use Rattle.places.specs.Vertex.{when, namedBy, givenTo}
 use Rattle.del_geo_core.specs.declared.tri2.Tri2.{Tri2}
 use Rattle.masses.specs.Vertex.{trianglesOf}
-use Rattle.mass_bounds.specs.Shares.{twiceArea, weight, exactShare, exactMass, sizes, namesOf, triangles}
+use Rattle.mass_bounds.specs.Shares.{twiceArea, weight, exactShare, exactMass, sizes, namesOf}
 use Rattle.mass_bounds.specs.Bounds.{NearExact, AddUp, SumNear}
 
 -- ---- sums of any g over the triangles of each vertex, and over all triangles

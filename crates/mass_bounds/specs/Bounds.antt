@@ -12,8 +12,8 @@ use Rattle.rounding.specs.Exact.{Equal, _⊠_, scale, sizeOf, value}
 use Rattle.rounding.specs.Error.{Within}
 use Rattle.rounding.specs.Sums.{sumOf, exactSum, exactSumTo, greatest}
 use Rattle.rounding.specs.Whole.{unit, isNumber}
-use Rattle.places.specs.Plane.{verticesOf}
-use Rattle.mass_bounds.specs.Shares.{triangles, namesOf, twiceArea, weight, over, exactMass, sizes}
+use Rattle.places.specs.Plane.{verticesOf, triangles}
+use Rattle.mass_bounds.specs.Shares.{namesOf, twiceArea, weight, over, exactMass, sizes}
 
 -- the 3 of d + 3 for the translation, the 6 of d + 6 for the rotations
 abbrev pub roundings : (k : ℕ) → ℕ

@@ -5,17 +5,11 @@ use Prim.Native.Nat.{ℕ, zero, suc, _*_, _^_}
 use lib.Dec.{eqb}
 use lib.Ieee.{Float, Format}
 use lib.ListN.{length}
-use Rattle.float.specs.Lists.{mapThrees}
 use Rattle.rounding.specs.Exact.{Num, _⊟_, _⊠_, sizeOf, value}
 use Rattle.rounding.specs.Sums.{sumOf, exactSum}
 use Rattle.rounding.specs.Whole.{unit}
 use Rattle.del_geo_core.specs.declared.tri2.Tri2.{Tri2}
-use Rattle.places.specs.Plane.{cornersAt}
 use Rattle.masses.specs.Vertex.{trianglesOf}
-
--- every triangle's corners, in the list's order
-unfoldable pub triangles : (tri2vtx : List ℕ) (vtx2xy : List Float) → List Tri2
-triangles tri2vtx vtx2xy = mapThrees (cornersAt vtx2xy) tri2vtx
 
 -- d: how often the list names vertex v; where 3 divides its length, that is the count of v in it (proofs/Names.antt)
 abbrev pub namesOf : (tri2vtx : List ℕ) (vtx2xy : List Float) (v : ℕ) → ℕ

@@ -1,15 +1,16 @@
 -- Where the triangles of a list are added to +0, each place holds what they give its vertex, added in the list's order: kept by every triangle.
 use mathlib.Core.Path.{_≡_, refl, _∙_}
 use mathlib.Core.Bool.{Bool, true, false, not}
-use mathlib.Core.List.{List, [], _++_}
+use mathlib.Core.List.{List, [], _∷_, _++_}
 use Prim.Native.Nat.{ℕ, _+_, _*_, _<_}
 use native.Mathlib.Omega.{arith}
 use lib.Dec.{eqb, ltb}
 use lib.Ieee.{Float, Format, nan}
 use lib.ListN.{length, getD-replicate, length-replicate}
 use borrow.Author.Tests.{ltb-true, not-true}
-use Rattle.float.specs.Lists.{_!_, cleared, every, fold, foldThrees, total}
+use Rattle.float.specs.Lists.{_!_, All, cleared, every, fold, foldThrees, mapThrees, total}
 use Rattle.float.specs.Ops.{Ops, ops}
+use Rattle.float.proofs.Each.{all-append}
 use Rattle.float.proofs.Fold.{fold-append, threes-keep}
 use Rattle.refusal.specs.Panel.{namesBelow}
 use Rattle.vec3.specs.declared.V3.{V3}
@@ -76,3 +77,28 @@ module _ {A : Type 0} (of : (c i0 i1 i2 : ℕ) → A) (v : ℕ) where
   pub unnamed : (names : List ℕ) → every (λ i. not (eqb i v)) names ≡ true → givenTo of v names ≡ []
   unfolding givenTo
   unnamed names e = threes-keep {C = Unit} _ (λ c i0 i1 i2. c) (λ i. not (eqb i v)) (λ l c. l ≡ []) (λ l c. none-given l) names [] tt e refl
+
+-- what holds of every triangle holds of those that a vertex is given
+module _ {A : Type 0} (g : (i0 i1 i2 : ℕ) → A) (P : A → Type 0) (v : ℕ) where
+  all-when : (test : Bool) (a : A) → P a → All P (when test a)
+  all-when true a p = (p, tt)
+  all-when false a p = tt
+
+  all-named : (i0 i1 i2 : ℕ) → P (g i0 i1 i2) → All P (namedBy (λ c. g) v i0 i1 i2)
+  unfolding namedBy
+  all-named i0 i1 i2 p =
+      let a = g i0 i1 i2 in
+      let first = when (eqb i0 v) a in
+      let second = when (eqb i1 v) a in
+      all-append P (first ++ second) _ (all-append P first second (all-when (eqb i0 v) a p) (all-when (eqb i1 v) a p)) (all-when (eqb i2 v) a p)
+
+  given-from : (l : List ℕ) (s : List A) → All P s → All P (mapThrees g l) → All P (foldThrees (λ s i0 i1 i2. s ++ namedBy (λ c. g) v i0 i1 i2) s l)
+  unfolding mapThrees foldThrees
+  given-from (i0 ∷ i1 ∷ i2 ∷ l) s k h = given-from l _ (all-append P s _ k (all-named i0 i1 i2 (h .0))) (h .1)
+  given-from (i0 ∷ i1 ∷ []) s k h = k
+  given-from (i0 ∷ []) s k h = k
+  given-from [] s k h = k
+
+  pub given-all : (names : List ℕ) → All P (mapThrees g names) → All P (givenTo (λ c. g) v names)
+  unfolding givenTo
+  given-all names = given-from names [] tt

@@ -9,8 +9,9 @@ use native.Mathlib.Omega.{arith}
 use lib.Dec.{eqb}
 use lib.ListN.{length}
 use borrow.Author.Tests.{eq-eqb, ne-eqb}
-use Rattle.rounding.specs.Exact.{Num, Equal, _⊠_, sizeOf}
-use Rattle.rounding.specs.Sums.{All, sumOf, exactSum, sumTo, greatest}
+use Rattle.float.specs.Lists.{All}
+use Rattle.rounding.specs.Exact.{Num, Equal, OwnSize, _⊠_, sizeOf}
+use Rattle.rounding.specs.Sums.{sumOf, exactSum, sumTo, exactSumTo, greatest}
 use Rattle.rounding.proofs.Num.{size-product}
 
 -- ---- over a list
@@ -38,7 +39,19 @@ module _ {A : Type 0} where
     sizes-product [] = omega arith
     sizes-product (a ∷ l) = rw (size-product (y a) w, sizes-product l) (omega arith)
 
+  -- where each term is its own size, so is the sum, and it is the sum of the sizes
+  module _ (y : A → Num) where
+    pub own-sum : (l : List A) → All (λ a. OwnSize (y a)) l → OwnSize (exactSum y l) × (sumOf (λ a. sizeOf (y a)) l ≡ sizeOf (exactSum y l))
+    unfolding sumOf
+    own-sum [] h = (refl, refl)
+    own-sum (a ∷ l) h = let rest = own-sum l (h .1) in (omega (arith, h .0, rest .0), omega (arith, h .0, rest .0, rest .1))
+
 -- ---- over the numbers below n
+pub own-sumTo : (y : ℕ → Num) (n : ℕ) → ((i : ℕ) → OwnSize (y i)) → OwnSize (exactSumTo y n) × (sumTo (λ i. sizeOf (y i)) n ≡ sizeOf (exactSumTo y n))
+unfolding sumTo
+own-sumTo y zero h = (refl, refl)
+own-sumTo y (suc n) h = let rest = own-sumTo y n h in (omega (arith, h n, rest .0), omega (arith, h n, rest .0, rest .1))
+
 pub sumTo-add : (g h : ℕ → ℕ) (n : ℕ) → sumTo (λ i. g i + h i) n ≡ sumTo g n + sumTo h n
 unfolding sumTo
 sumTo-add g h zero = refl

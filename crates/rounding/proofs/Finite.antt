@@ -17,10 +17,10 @@ use lib.Ieee.Order.{drop, kept}
 use lib.Ieee.Positive.{first-pos}
 use lib.Ieee.Scale.{grid, overflow, finite, normal-of-rounded}
 use Rattle.float.specs.Ops.{Ops, ops}
-use Rattle.float.specs.Lists.{fold, total}
+use Rattle.float.specs.Lists.{All, fold, total}
 use Rattle.rounding.specs.Exact.{Num, Equal, _⊞_, sizeOf, signed, mag, value, Number}
 use Rattle.rounding.specs.Error.{NearestTo, Near}
-use Rattle.rounding.specs.Sums.{All, sumOf}
+use Rattle.rounding.specs.Sums.{sumOf}
 use Rattle.rounding.proofs.Num.{size-signed, size-sum, size-product}
 use Rattle.rounding.proofs.Nearest.{grid-near}
 use Rattle.rounding.proofs.Value.{value-finite, size-value, positive-value}

@@ -1,5 +1,6 @@
 -- Chains and sums far from both ends of a format's range. A margin M says how far: a factor between 1 / R and R uses up R of it, a divisor itself, a sum its
 -- count of terms; while there is some left nothing overflows and no digits are lost.
+use mathlib.Core.Path.{_≡_}
 use mathlib.Core.Bool.{false}
 use mathlib.Core.List.{List}
 use Prim.Native.Nat.{ℕ, suc, _+_, _*_, _^_, _≤_, _<_}
@@ -11,22 +12,24 @@ use lib.Pow.{pow-pos}
 use lib.Ieee.{Float, Format, prec, emax, low}
 use lib.Ieee.Positive.{first-pos}
 use lib.Ieee.Scale.{overflow, finite}
-use Rattle.float.specs.Lists.{total}
+use Rattle.float.specs.Lists.{All, total}
 use Rattle.float.specs.Ops.{Ops, ops}
-use Rattle.rounding.specs.Exact.{Num, _⊠_, sizeOf, signed, mag, value, Number}
+use Rattle.float.proofs.Each.{all-map}
+use Rattle.rounding.specs.Exact.{Num, _⊠_, sizeOf, signed, mag, sign, value, Number}
 use Rattle.rounding.specs.Error.{Within, AtLeast, Chain}
-use Rattle.rounding.specs.Sums.{All, sumOf, exactSum}
+use Rattle.rounding.specs.Sums.{sumOf, exactSum}
 use Rattle.rounding.specs.Dyadic.{Dyad}
 use Rattle.rounding.proofs.Num.{size-product}
 use Rattle.rounding.proofs.Value.{size-value}
 use Rattle.rounding.proofs.Chain.{at-least-product, mul-chain, div-whole}
-use Rattle.rounding.proofs.Sums.{all-map, sum-within, total-fits}
+use Rattle.rounding.proofs.Sums.{sum-within, total-fits}
 use Rattle.rounding.proofs.ExactSums.{sum-most}
 use Rattle.rounding.proofs.Finite.{mul-near-finite, div-whole-finite, sum-finite}
 
--- z is a number whose size lies between 1 / R and R
+-- z is a number between 1 / R and R
 pub record Between (f : Format) (R : ℕ) (z : Float) : Type 0 where
   pub number : Number f z
+  pub above : sign z ≡ false
   pub least : 2 ^ low f ≤ R * mag f z
   pub most : mag f z ≤ R * 2 ^ low f
 

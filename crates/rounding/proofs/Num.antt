@@ -2,12 +2,13 @@
 -- and products associate. By cases of the signs.
 use mathlib.Core.Path.{_≡_, ap}
 use mathlib.Core.Bool.{Bool, true, false}
-use Prim.Native.Nat.{ℕ, _+_, _*_, _≤_}
-use native.Mathlib.Nat.{mul-sub, le-of-lt, lt-of-not-le}
+use mathlib.Core.Logic.{_↔_}
+use Prim.Native.Nat.{ℕ, _+_, _*_, _≤_, _<_}
+use native.Mathlib.Nat.{mul-sub, mul-lt-mul-of-pos-left, lt-of-mul-lt-mul-left, le-of-lt, lt-of-not-le}
 use native.Mathlib.Decide.{decLe}
 use native.Mathlib.Omega.{arith}
 use lib.Ieee.{unlike}
-use Rattle.rounding.specs.Exact.{Num, Equal, _⊞_, _⊟_, _⊠_, scale, sizeOf, signed}
+use Rattle.rounding.specs.Exact.{Num, Equal, _⊞_, _⊟_, _⊠_, scale, sizeOf, signed, Negative, OwnSize}
 
 -- the size times P, by its two bounds
 pub size-times : (a : Num) (P n : ℕ) → a .plus * P ≤ a .minus * P + n → a .minus * P ≤ a .plus * P + n → sizeOf a * P ≤ n
@@ -48,6 +49,17 @@ size-product a b =
     let p = signed-size a in
     let q = signed-size b in
     size-signed (a ⊠ b) (unlike (p .0) (q .0)) (sizeOf a * sizeOf b) (product-signed a b (p .0) (q .0) (sizeOf a) (sizeOf b) (p .1) (q .1))
+
+-- what is not negative is its own size, and so is a product of two such
+pub own-size : (a : Num) → (Negative a → ⊥) → OwnSize a
+own-size a h = omega (arith, lt-of-not-le h)
+
+pub own-product : (a b : Num) → OwnSize a → OwnSize b → OwnSize (a ⊠ b)
+own-product a b h k = rw (size-product a b) (product-signed a b false false (sizeOf a) (sizeOf b) h k)
+
+-- the sign of a number is that of its multiples
+pub negative-multiple : (k : ℕ) (a b : Num) → 0 < k → Equal (scale k a) b → Negative a ↔ Negative b
+negative-multiple k a b k+ e = ((λ h. omega (arith, mul-lt-mul-of-pos-left h k+)), λ h. lt-of-mul-lt-mul-left k (omega (arith, h)))
 
 -- a difference and a product of multiples
 pub difference-scale : (a b n m : Num) (l : ℕ) → Equal a (scale l n) → Equal b (scale l m) → Equal (a ⊟ b) (scale l (n ⊟ m))

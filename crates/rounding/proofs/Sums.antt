@@ -2,7 +2,7 @@
 -- The first addition, to +0, is exact.
 use mathlib.Core.Path.{_≡_, refl, sym, ap, _∙_}
 use mathlib.Core.Bool.{false}
-use mathlib.Core.List.{List, [], _∷_, _++_}
+use mathlib.Core.List.{List, [], _∷_}
 use Prim.Native.Nat.{ℕ, zero, suc, _+_, _*_, _/_, _^_, _≤_}
 use native.Mathlib.Nat.{le-refl, le-trans, le-of-eq, mul-le-mul, pow-suc}
 use native.Mathlib.Omega.{arith}
@@ -12,12 +12,13 @@ use lib.Ieee.{Float, Format, binary32, binary64, prec, fits}
 use lib.Ieee.Fits.{add-fits}
 use lib.Ieee.Scale.{finite}
 use Rattle.float.specs.Ops.{Ops, ops, literal}
-use Rattle.float.specs.Lists.{fold, total}
+use Rattle.float.specs.Lists.{All, fold, total}
+use Rattle.float.proofs.Each.{all-take, all-drop, all-map}
 use Rattle.float.proofs.Bits.{zero-bits}
 use Rattle.float.proofs.Finite.{add-finite}
 use Rattle.rounding.specs.Exact.{Num, _⊞_, signed, mag, sign, value, Number}
 use Rattle.rounding.specs.Error.{Within, Near}
-use Rattle.rounding.specs.Sums.{All, sumOf, exactSum, halve, halves}
+use Rattle.rounding.specs.Sums.{sumOf, exactSum, halve, halves}
 use Rattle.rounding.proofs.Num.{size-times}
 use Rattle.rounding.proofs.Value.{size-value}
 use Rattle.rounding.proofs.Rounding.{zero-add}
@@ -25,25 +26,6 @@ use Rattle.rounding.proofs.ExactSums.{sum-append}
 use Rattle.rounding.proofs.Chain.{near-exact, near-same, near-more, near-within, add-near}
 
 -- ---- lists
-module _ {A : Type 0} (P : A → Type 0) where
-  pub all-append : (l m : List A) → All P l → All P m → All P (l ++ m)
-  all-append [] m h k = k
-  all-append (a ∷ l) m h k = (h .0, all-append l m (h .1) k)
-
-  all-take : (i : ℕ) (l : List A) → All P l → All P (take i l)
-  all-take zero l h = tt
-  all-take (suc i) [] h = tt
-  all-take (suc i) (a ∷ l) h = (h .0, all-take i l (h .1))
-
-  all-drop : (i : ℕ) (l : List A) → All P l → All P (drop i l)
-  all-drop zero l h = h
-  all-drop (suc i) [] h = tt
-  all-drop (suc i) (a ∷ l) h = all-drop i l (h .1)
-
-pub all-map : {A : Type 0} {P Q : A → Type 0} → ((a : A) → P a → Q a) → (l : List A) → All P l → All Q l
-all-map h [] k = tt
-all-map h (a ∷ l) k = (h a (k .0), all-map h l (k .1))
-
 sum-split : {A : Type 0} (g : A → ℕ) (i : ℕ) (l : List A) → sumOf g (take i l) + sumOf g (drop i l) ≡ sumOf g l
 sum-split g i l = sym (sum-append g (take i l) (drop i l)) ∙ ap (sumOf g) (take-append-drop i l)
 

@@ -1,7 +1,7 @@
 -- Exact signed numbers, each a difference of two natural ones, and the exact value of a float (01-scope 6.1) in units of its format's smallest one, 2 ^ -low.
 use mathlib.Core.Path.{_≡_}
 use mathlib.Core.Bool.{Bool, true, false}
-use Prim.Native.Nat.{ℕ, _+_, _-_, _*_, _/_, _^_}
+use Prim.Native.Nat.{ℕ, _+_, _-_, _*_, _/_, _^_, _<_}
 use lib.Dec.{T}
 use lib.Ieee.{Float, nan, inf, fin, Format, low, up, down, fits}
 use lib.Ieee.Scale.{finite}
@@ -41,6 +41,13 @@ sizeOf a = (a .plus - a .minus) + (a .minus - a .plus)
 abbrev pub signed : Bool → ℕ → Num
 signed false a = record { plus = a; minus = 0 }
 signed true a = record { plus = 0; minus = a }
+
+abbrev pub Negative : Num → Type 0
+Negative a = a .plus < a .minus
+
+-- the number is its size: it is not negative
+abbrev pub OwnSize : Num → Type 0
+OwnSize a = Equal a (signed false (sizeOf a))
 
 -- a finite float is ±mag units of 2 ^ -low
 unfoldable pub mag : Format → Float → ℕ

@@ -6,11 +6,6 @@ use lib.Ieee.{Float, Format}
 use Rattle.float.specs.Ops.{Ops, ops}
 use Rattle.rounding.specs.Exact.{Num}
 
--- P holds of each element
-abbrev pub All : {A : Type 0} → (A → Type 0) → List A → Type 0
-All P [] = Unit
-All P (a ∷ l) = P a × All P l
-
 -- the sum of g a over the elements a of a list
 unfoldable pub sumOf : {A : Type 0} → (A → ℕ) → List A → ℕ
 sumOf g [] = 0
