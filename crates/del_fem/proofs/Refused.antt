@@ -26,12 +26,12 @@ module _ (f : Format) (s : ℕ) (density thickness a b : Float) {r : ℕ} where
     pub stvk-refused-7-exactly : (p0 p1 : List (List Float)) → IsStvkExport f p0 p1 (materialOf f s density thickness a b) r values
         → r ≡ badStiffness ↔ ((space.isFiniteOf (space.cornersOf p0) && space.isFiniteOf (space.cornersOf p1) && (finite a && finite b) ≡ true) × BadWord f s a b)
     unfolding stvk.stvkOf stvk.testsOf energyOf
-    stvk-refused-7-exactly p0 p1 is = rw (is .0) (word-seven f s a b _ _ _)
+    stvk-refused-7-exactly p0 p1 is = rw (is .0) (word-seven f s a b _ _ _ _)
 
     pub plate-refused-7-exactly : (p u : List (List Float)) → IsPlateExport f p u (materialOf f s density thickness a b) r values
         → r ≡ badStiffness ↔ ((plane.isFiniteOf (plane.cornersOf p) && space.isFiniteOf (space.cornersOf u) && finite thickness && (finite a && finite b) ≡ true) × BadWord f s a b)
     unfolding plate.plateOf plate.testsOf energyOf
-    plate-refused-7-exactly p u is = rw (is .0) (word-seven f s a b _ _ _)
+    plate-refused-7-exactly p u is = rw (is .0) (word-seven f s a b _ _ _ _)
 
   -- of a skin it is the first triangle's
   pub skin-refused-7-exactly : (vtx2ini vtx2def : List Float) (tri2vtx : List ℕ) (before : List Float) {place : ℕ} {w : Float} {after : List Float}

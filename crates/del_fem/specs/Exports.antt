@@ -23,7 +23,7 @@ use Rattle.mesh.specs.declared.Mesh.the-variants.{Read, Refused}
 
 -- THE statement of `del_fem_version`: 1000 times the major number and the minor one
 abbrev pub version : ℕ
-version = 2000
+version = 3000
 
 module _ (f : Format) where
   -- THE statement of `del_fem_quadratic_bending_wdw` (01-scope 5.6)

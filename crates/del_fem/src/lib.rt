@@ -17,7 +17,7 @@ use mesh::Mesh;
 pub extern "C" fn del_fem_version() -> u32
     ensures { λ r. ⌜ r ≡ version ⌝ }
 {
-    2000
+    3000
 }
 
 // What a number means in words, as a text of C: the words, then zeros; answers how many bytes the words have.

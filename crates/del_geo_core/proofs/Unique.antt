@@ -1,9 +1,12 @@
 -- No second answer fits a helper's statement: each is an equation with its definition.
 use mathlib.Core.Path.{_≡_}
+use mathlib.Core.Bool.{Bool}
 use lib.Ieee.{Float, Format}
 use Rattle.float.proofs.Unique.{only}
 use Rattle.vec3.specs.declared.V3.{V3}
 use Rattle.vec3.specs.declared.Divided.{Divided}
+use Rattle.del_geo_core.specs.declared.tri2.SignedArea.{SignedArea}
+use Rattle.del_geo_core.specs.declared.tri2.Tri2.{Tri2}
 use Rattle.del_geo_core.specs.declared.tri2.V2.{V2}
 use Rattle.del_geo_core.specs.declared.tri3.NormalArea.{NormalArea}
 use Rattle.del_geo_core.specs.declared.curve_linear_coords.DualBasis.{DualBasis}
@@ -15,8 +18,11 @@ use Rattle.del_geo_core.specs.CurveLinearCoords.{contravariantOf, invers
 use Rattle.del_geo_core.specs.Mat3RowMajor.{multVecOf}
 
 module _ (f : Format) where
-  pub plane-area : (p0 p1 p2 : V2) {r q : Float} → r ≡ tri2.areaOf f p0 p1 p2 → q ≡ tri2.areaOf f p0 p1 p2 → r ≡ q
+  pub plane-area : (p0 p1 p2 : V2) {r q : SignedArea} → r ≡ tri2.signedAreaOf f p0 p1 p2 → q ≡ tri2.signedAreaOf f p0 p1 p2 → r ≡ q
   plane-area p0 p1 p2 = only
+
+  pub turns-right : (p : Tri2) {r q : Bool} → r ≡ tri2.turnsRight f p → q ≡ tri2.turnsRight f p → r ≡ q
+  turns-right p = only
 
   pub normal : (p0 p1 p2 : V3) {r q : V3} → r ≡ tri3.normalOf f p0 p1 p2 → q ≡ tri3.normalOf f p0 p1 p2 → r ≡ q
   normal p0 p1 p2 = only

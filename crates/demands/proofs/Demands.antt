@@ -18,7 +18,7 @@ use Rattle.skin.specs.Skin.{answerOf}
 use Rattle.mesh.proofs.Accepted as mesh
 use Rattle.mass_bounds.proofs.Bounds as bounds
 use Rattle.examples.proofs.Examples.{examples-hold}
-use Rattle.demands.specs.Demands.{Demand1, Demand2, Materials, Demands}
+use Rattle.demands.specs.Demands.{Demand1, Demand2, Materials, Turns, Demands}
 
 refusals : Demand1
 refusals = record {
@@ -94,9 +94,16 @@ materials = record {
   stvk-young = λ p0 p1 density thickness e v r is. stvk.young-is-lame binary64 p0 p1 density thickness e v is;
   plate-young = λ p u density thickness e v r is. plate.young-is-lame binary64 p u density thickness e v is;
   skin-young = λ vtx2ini vtx2def tri2vtx before density thickness e v r is h. young.young-is-lame binary64 vtx2ini vtx2def e v h density thickness tri2vtx before is;
-  stvk-taken = λ p0 p1 density thickness e v is c h b. let t = stvk.young-taken binary64 p0 p1 density thickness e v is c h b in (t, rw t (taken-never-3 binary64 _ _));
-  plate-taken = λ p u density thickness e v is c h b. let t = plate.young-taken binary64 p u density thickness e v is c h b in (t, rw t (taken-never-3 binary64 _ _));
+  stvk-taken = λ p0 p1 density thickness e v is c h b. let t = stvk.young-taken binary64 p0 p1 density thickness e v is c h b in (t, rw t (taken-never-3 binary64 _ _ _));
+  plate-taken = λ p u density thickness e v is c h b. let t = plate.young-taken binary64 p u density thickness e v is c h b in (t, rw t (taken-never-3 binary64 _ _ _));
+}
+
+turns : Turns
+turns = record {
+  plate = λ p u m is. plate.refused-6-exactly binary64 p u m is;
+  masses = λ tri2vtx vtx2xy m before is. masses.refused-6-exactly binary64 tri2vtx vtx2xy m before is;
+  whole-corners = bounds.turned-exactly;
 }
 
 pub demands : Demands
-demands = record { demand-1 = refusals; demand-2 = numbers; demand-3 = record { masses = bounds.demand-3 }; materials = materials }
+demands = record { demand-1 = refusals; demand-2 = numbers; demand-3 = record { masses = bounds.demand-3 }; materials = materials; turns = turns }

@@ -8,9 +8,9 @@ use Prim.Native.Nat.{ℕ, _<_, _≤_}
 use lib.Ieee.{Float, nan, binary64, ofBits}
 use lib.Ieee.Scale.{finite}
 use lib.ListN.{length, replicate}
-use Rattle.float.specs.Lists.{cleared}
+use Rattle.float.specs.Lists.{cleared, every}
 use Rattle.float.specs.Ops.{Ops, ops}
-use Rattle.refusal.specs.Refusal.{accepted, badName, badInput, badAnswer, badStiffness, badFile, kernelRows, Exactly}
+use Rattle.refusal.specs.Refusal.{accepted, badLength, badName, badInput, badAnswer, turned, badStiffness, badFile, kernelRows, Exactly}
 use Rattle.refusal.specs.Answers.{takenOf}
 use Rattle.refusal.specs.Listed.{ListedExactly}
 use Rattle.refusal.specs.declared.Energy.{Energy}
@@ -21,6 +21,8 @@ use Rattle.material.specs.declared.Stiffness.the-variants.{Young}
 use Rattle.root.specs.Root.{IsRoot, SquareRoot, SquareRootWord}
 use Rattle.corners.specs.Plane as plane
 use Rattle.corners.specs.Space as space
+use Rattle.del_geo_core.specs.Tri2.{signedAreaOf, turnsRight}
+use Rattle.del_geo_core.specs.declared.tri2.Turn.the-variants.{Right}
 use Rattle.bending.specs.Bending.{wdwOf}
 use Rattle.quadratic_bending.specs.Bending as bendings
 use Rattle.quadratic_bending.specs.declared.Bending.{Bending}
@@ -34,14 +36,15 @@ use Rattle.stvk_tri3.specs.declared.Strain.{Strain}
 use Rattle.plate.specs.Plate.{wDwDdwPlateBendingOf}
 use Rattle.mitc_tri3.specs.Plate as plates
 use Rattle.masses.specs.Masses.{massesOf}
-use Rattle.mitc_tri3.specs.Masses.{rowsOf, IsMasses}
+use Rattle.mitc_tri3.specs.Masses.{Sound, SomeTurned, rowsOf, IsMasses}
 use Rattle.skin.specs.Sums.{energyOf, gradientOf, numbersOf}
 use Rattle.skin.specs.Skin.{answerOf, earlyOf, lateOf, IsSkin}
 use Rattle.skin.specs.declared.Skin.{Skin}
 use Rattle.mesh.specs.Mesh.{meshOf, numberOf}
 use Rattle.mesh.specs.Writer.{fitIn, Content, Valid, Written, encode}
 use Rattle.mesh.specs.declared.Mesh.the-variants.{Read}
-use Rattle.mass_bounds.specs.Range.{largestCoordinate, largestFactor, inRange}
+use Rattle.mass_bounds.specs.Range.{largestCoordinate, largestFactor, wholeAt, inRange}
+use Rattle.mass_bounds.specs.Shares.{SomeNegative}
 use Rattle.mass_bounds.specs.Bounds as bounds
 use Rattle.examples.specs.Table.{Hold, table}
 open Ops (ops binary64) using (zero)
@@ -107,7 +110,7 @@ pub record Demand1 : Type 0 where
       → EnergyRefuses (stvks.IsStvk binary64 p0 p1 m) (stvks.testsOf binary64 (space.cornersOf p0) (space.cornersOf p1) (m .stiffness))
   pub plate : (p u : List (List Float)) (m : Material)
       → EnergyRefuses (plates.IsPlate binary64 p u m) (plates.testsOf binary64 (plane.cornersOf p) (space.cornersOf u) (m .thickness) (m .stiffness))
-  -- the buffer is +0 throughout after 5 and as it was after 1, 2 and 3
+  -- the buffer is +0 throughout after 5 and as it was after 1, 2, 3 and 6
   pub masses : (tri2vtx : List ℕ) (vtx2xy : List Float) (m : Material) (before : List Float) {r : ℕ} {after : List Float}
       → IsMasses binary64 tri2vtx vtx2xy m before r after
       → Exactly r (rowsOf binary64 tri2vtx vtx2xy (m .thickness) (m .density) before) × (r ≡ badAnswer → after ≡ cleared binary64 before)
@@ -140,6 +143,7 @@ pub record Demand2 : Type 0 where
       EnergyGives (stvks.IsStvk binary64 p0 p1 m) (wdwddwOf binary64 (space.cornersOf p0) (space.cornersOf p1) (lame .lambda) (lame .myu))
   pub plate : (p u : List (List Float)) (m : Material) → let lame = lameOf binary64 (m .stiffness) in
       EnergyGives (plates.IsPlate binary64 p u m) (wDwDdwPlateBendingOf binary64 (plane.cornersOf p) (space.cornersOf u) (m .thickness) (lame .lambda) (lame .myu))
+  -- of a panel without right-turning triangles: one that has some is refused
   pub masses : (tri2vtx : List ℕ) (vtx2xy : List Float) (m : Material) (before : List Float) {r : ℕ} {after : List Float}
       → IsMasses binary64 tri2vtx vtx2xy m before r after → r ≡ accepted → after ≡ massesOf binary64 tri2vtx vtx2xy (m .thickness) (m .density) before
   pub one-panel : (tri2vtx : List ℕ) (vtx2xy : List Float) (m : Material) (before : List Float) {r q : ℕ} {after left : List Float}
@@ -178,18 +182,33 @@ pub record Materials : Type 0 where
   pub plate-young : (p u : List (List Float)) → YoungIsLame (λ r. r .number) (plates.IsPlate binary64 p u)
   pub skin-young : (vtx2ini vtx2def : List Float) (tri2vtx : List ℕ) (before : List Float)
       → YoungIsLame {A = Skin × List Float} (λ answer. answer .0 .number) (λ m answer. IsSkin binary64 vtx2ini vtx2def tri2vtx m before (answer .0) (answer .1))
-  -- and whether the pair is finite or not: once all that is read is taken, the answer is that of the source's numbers on it, with 4 and 5, never 3
+  -- and whether the pair is finite or not: once all that is read is taken, the answer is that of the source's numbers on it, with 4 and 5, of a plate with 6 before them, never 3
   pub stvk-taken : (p0 p1 : List (List Float)) (density thickness e v : Float) {r : Energy} → stvks.IsStvk binary64 p0 p1 (youngMaterial density thickness e v) r
       → let q0 = space.cornersOf p0 in let q1 = space.cornersOf p1 in
       space.isFiniteOf q0 && space.isFiniteOf q1 ≡ true → isFiniteOf (Young e v) ≡ true → isBadOf binary64 (Young e v) ≡ false
-      → (r ≡ takenOf binary64 (stvks.divisorIsZero binary64 q0) (stvks.numbersOf binary64 q0 q1 (lameOf binary64 (Young e v)))) × (r .number ≡ badInput → ⊥)
+      → (r ≡ takenOf binary64 false (stvks.divisorIsZero binary64 q0) (stvks.numbersOf binary64 q0 q1 (lameOf binary64 (Young e v)))) × (r .number ≡ badInput → ⊥)
   pub plate-taken : (p u : List (List Float)) (density thickness e v : Float) {r : Energy} → plates.IsPlate binary64 p u (youngMaterial density thickness e v) r
       → let q = plane.cornersOf p in let t = space.cornersOf u in
       plane.isFiniteOf q && space.isFiniteOf t && finite thickness ≡ true → isFiniteOf (Young e v) ≡ true → isBadOf binary64 (Young e v) ≡ false
-      → (r ≡ takenOf binary64 (plates.divisorIsZero binary64 q thickness) (plates.numbersOf binary64 q t thickness (lameOf binary64 (Young e v)))) × (r .number ≡ badInput → ⊥)
+      → (r ≡ takenOf binary64 (turnsRight binary64 q) (plates.divisorIsZero binary64 q thickness) (plates.numbersOf binary64 q t thickness (lameOf binary64 (Young e v)))) × (r .number ≡ badInput → ⊥)
+
+-- ---- request 6/12: triangles that turn right (01-scope 3.2, 2.1: 6)
+pub record Turns : Type 0 where
+  -- 6 is given exactly where nothing before it is refused and the area's own field says Right, of the plate's triangle or of some triangle of the panel
+  pub plate : (p u : List (List Float)) (m : Material) {r : Energy} → plates.IsPlate binary64 p u m r
+      → let q = plane.cornersOf p in let tests = plates.testsOf binary64 q (space.cornersOf u) (m .thickness) (m .stiffness) in
+      r .number ≡ turned ↔ ((tests .«bad_input» ≡ false) × (tests .«bad_stiffness» ≡ false) × (signedAreaOf binary64 (q .p0) (q .p1) (q .p2) .turn ≡ Right))
+  pub masses : (tri2vtx : List ℕ) (vtx2xy : List Float) (m : Material) (before : List Float) {r : ℕ} {after : List Float}
+      → IsMasses binary64 tri2vtx vtx2xy m before r after
+      → r ≡ turned ↔ (Sound tri2vtx vtx2xy (m .thickness) (m .density) before × SomeTurned binary64 tri2vtx vtx2xy)
+  -- no rounding hides a turn of whole corners or makes one: where none of 1, 2 and 3 is given, 6 is exactly where some triangle's exact signed area is negative
+  pub whole-corners : (tri2vtx : List ℕ) (vtx2xy : List Float) (m : Material) (before : List Float) {r : ℕ} {after : List Float}
+      → IsMasses binary64 tri2vtx vtx2xy m before r after → every (wholeAt binary64 largestCoordinate vtx2xy) tri2vtx ≡ true
+      → (r ≡ badLength → ⊥) → (r ≡ badName → ⊥) → (r ≡ badInput → ⊥) → r ≡ turned ↔ SomeNegative binary64 tri2vtx vtx2xy
 
 pub record Demands : Type 0 where
   pub demand-1 : Demand1
   pub demand-2 : Demand2
   pub demand-3 : Demand3
   pub materials : Materials
+  pub turns : Turns

@@ -1,8 +1,8 @@
 -- The marked examples hold (01-scope 8.3): every row of the table, by computing.
 use mathlib.Core.Path.{_≡_, refl, ap}
 use Prim.Native.Nat.{ℕ}
-use lib.Ieee.{binary64, sub, mul, div, ofBits, toBits}
-use Rattle.float.specs.Lists.{every, table as tabled, each, fold, foldThrees}
+use lib.Ieee.{binary64, sub, mul, div, lt, ofBits, toBits}
+use Rattle.float.specs.Lists.{every, table as tabled, each, fold, foldThrees, mapThrees}
 use Rattle.root.specs.Root.{rootOf, rootWordOf}
 use Rattle.refusal.specs.Refusal.{accepted, zeroDivisor, firstOf, kernelNumber}
 use Rattle.refusal.specs.Answers.{zeroDivisorOf, badEnergyOf, energyOf}
@@ -10,11 +10,12 @@ use Rattle.refusal.specs.Left.{leftOf}
 use Rattle.refusal.specs.Panel.{withinLimits, badLengthOf}
 use Rattle.refusal.specs.declared.Energy.{Energy}
 use Rattle.places.specs.Places.{addVertex, addTriangle}
-use Rattle.places.specs.Plane.{cornersAt, namedFinite}
+use Rattle.places.specs.Plane.{cornersAt, triangles, namedFinite}
 use Rattle.material.specs.Material as material
 use Rattle.vec3.specs.Vec3 as vec3
 use Rattle.corners.specs.Plane as plane
 use Rattle.corners.specs.Space as space
+use Rattle.del_geo_core.specs.Tri2 as tri2
 use Rattle.del_geo_core.specs.Tri3 as tri3
 use Rattle.del_geo_core.specs.Edge as edge
 use Rattle.del_geo_core.specs.CurveLinearCoords as coords
@@ -23,7 +24,7 @@ use Rattle.plate_bending.specs.Bending as bend
 use Rattle.plate_shear.specs.Shear as shear
 use Rattle.plate.specs.Plate as plates
 use Rattle.mitc_tri3.specs.Plate as mitc
-use Rattle.mitc_tri3.specs.Masses.{badInputOf, numberOf, bufferOf}
+use Rattle.mitc_tri3.specs.Masses.{badInputOf, noneTurned, numberOf, bufferOf}
 use Rattle.masses.specs.Masses.{massOf, addMasses, addAll, massesOf}
 use Rattle.edges.specs.Edges as edges
 use Rattle.strain.specs.Strain as strain
@@ -40,12 +41,12 @@ plate-accepted : plate +2 .number ≡ accepted
 unfolding plate sub mul div ofBits every tabled each fold rootOf firstOf kernelNumber badEnergyOf energyOf vec3.overOf plane.isFiniteOf space.isFiniteOf coords.contravariantOf
     coords.inverseOf mat3.multVecOf bend.bendingOf bend.t0s bend.dstrainOf bend.wOf bend.dwOf bend.ddwOf
     shear.shearOf shear.rs shear.ss shear.dstrainOf shear.wOf shear.dwOf shear.ddwOf
-    plates.gdOf edges.guGuOf plates.guOf plates.stateOf plates.accumulatedOf plates.wOf plates.dwOf plates.ddwOf edges.planeOf zeroDivisorOf material.isFiniteOf material.lameOf material.isBadOf material.testedOf plates.wDwDdwPlateBendingOf mitc.testsOf mitc.plateOf
+    plates.gdOf edges.guGuOf plates.guOf plates.stateOf plates.accumulatedOf plates.wOf plates.dwOf plates.ddwOf edges.planeOf zeroDivisorOf material.isFiniteOf material.lameOf material.isBadOf material.testedOf tri2.isRightOf tri2.turnOf lt plates.wDwDdwPlateBendingOf mitc.testsOf mitc.plateOf
 plate-accepted = refl
 
 plate-refused : plate +0 .number ≡ zeroDivisor
 unfolding plate sub mul div ofBits firstOf kernelNumber energyOf vec3.overOf plane.isFiniteOf space.isFiniteOf coords.contravariantOf coords.inverseOf plates.gdOf plates.guOf
-    plates.stateOf edges.planeOf zeroDivisorOf material.isFiniteOf material.lameOf material.isBadOf material.testedOf plates.wDwDdwPlateBendingOf mitc.testsOf mitc.plateOf
+    plates.stateOf edges.planeOf zeroDivisorOf material.isFiniteOf material.lameOf material.isBadOf material.testedOf tri2.isRightOf tri2.turnOf lt plates.wDwDdwPlateBendingOf mitc.testsOf mitc.plateOf
 plate-refused = refl
 
 stvk-accepted : stvk .number ≡ accepted
@@ -77,7 +78,7 @@ numbers-given : Hold (tableOf (plateAs +2 accepted) (plateAs +0 zeroDivisor) (st
 unfolding tableOf sub mul div ofBits toBits every tabled each fold foldThrees rootOf rootWordOf firstOf kernelNumber energyOf withinLimits vec3.normOf vec3.overOf vec3.unitOf
     plane.isFiniteOf space.isFiniteOf tri3.normalOf tri3.areaOf tri3.unitNormalAreaOf edge.lengthOf coords.contravariantOf coords.inverseOf mat3.multVecOf
     bend.bendingOf bend.t0s bend.wOf shear.shearOf shear.rs shear.ss shear.wOf plates.gdOf
-    edges.guGuOf plates.guOf plates.stateOf plates.accumulatedOf plates.wOf addVertex addTriangle cornersAt badLengthOf namedFinite badInputOf massOf addMasses addAll massesOf
+    edges.guGuOf plates.guOf plates.stateOf plates.accumulatedOf plates.wOf addVertex addTriangle cornersAt badLengthOf namedFinite badInputOf triangles mapThrees noneTurned tri2.isRightOf tri2.turnOf lt massOf addMasses addAll massesOf
     numberOf bufferOf leftOf zeroDivisorOf edges.planeOf edges.spaceOf edges.glstrainOf strain.restOf strain.gugu0Of strain.wOf strain.hogeOf strain.dwKOf strain.dwOf strain.valuesOf strain.restOfGreenLagrange strains.testedOf strains.testsOf strains.strainOf strains.answerOf energy.atOf energy.alongOf
     energy.restOf energy.glstrainOf energy.gugu0Of energy.elasticityTensorOf energy.stateOf energy.wOf energy.dNdrOf energy.dwAtOf energy.dwOf quadratic.isFiniteOf
     material.lameOf bending.divisorsOf bending.kOf bending.wOf bending.dwdpOf bending.wdwOf quadratic.testsOf quadratic.bendingOf quadratic.answerOf

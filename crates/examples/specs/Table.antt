@@ -14,7 +14,10 @@ use Rattle.material.specs.declared.Stiffness.{Stiffness}
 use Rattle.material.specs.declared.Stiffness.the-variants.{Lame}
 use Rattle.corners.specs.Plane as plane
 use Rattle.corners.specs.Space as space
+use Rattle.del_geo_core.specs.Tri2.{signedAreaOf}
 use Rattle.del_geo_core.specs.declared.tri2.Tri2.{Tri2}
+use Rattle.del_geo_core.specs.declared.tri2.Turn.{Turn}
+use Rattle.del_geo_core.specs.declared.tri2.Turn.the-variants.{Left, Right, Flat}
 use Rattle.del_geo_core.specs.declared.tri3.Tri3.{Tri3}
 use Rattle.mitc_tri3.specs.Example.{points, thick, rho}
 use Rattle.mitc_tri3.specs.Masses.{numberOf, bufferOf}
@@ -26,7 +29,7 @@ use Rattle.stvk_tri3.specs.Stvk.{stvkOf}
 use Rattle.stvk_tri3.specs.declared.Strain.{Strain}
 use Rattle.quadratic_bending.specs.Bending as bending
 use Rattle.quadratic_bending.specs.declared.Bending.{Bending}
-use Rattle.examples.specs.Words.{double, doubles, word, words, +0, +1, +2, +3, +4, +6, +7, +12, +24, +72, -0, -1, -2, -3, -12}
+use Rattle.examples.specs.Words.{double, doubles, word, words, +0, +1, +2, +3, +4, +6, +7, +12, +24, +72, -0, -1, -2, -3}
 
 -- what is given, and what 01-scope says
 pub record Row : Type 0 where
@@ -55,6 +58,10 @@ masses names = numberOf binary64 names points thick rho (doubles sevens) ∷ wor
 -- the translational masses, added from +0 in the vertices' order
 abbrev sumAfter : (names : List ℕ) → Float
 sumAfter names = total binary64 (λ v. bufferAfter names ! (v * 3)) (0 ∷ 1 ∷ 2 ∷ 3 ∷ [])
+
+-- the largest finite double
+abbrev largest : ℕ
+largest = 0x7fef_ffff_ffff_ffff
 
 abbrev root : ℕ → List ℕ
 root x = rootWordOf binary64 x ∷ []
@@ -105,6 +112,28 @@ bends =
 abbrev stock : LamePair
 stock = lameOf binary64 (stockSheet binary64 .stiffness)
 
+-- 17 to 19: the area's word, and the turn as a number of its own
+abbrev left : ℕ
+left = 0
+
+abbrev right : ℕ
+right = 1
+
+abbrev flat : ℕ
+flat = 2
+
+abbrev turnNumber : Turn → ℕ
+turnNumber Left = left
+turnNumber Right = right
+turnNumber Flat = flat
+
+-- of (0,0), (x1,y1), (x2,y2)
+abbrev area : (x1 y1 x2 y2 : ℕ) → List ℕ
+area x1 y1 x2 y2 =
+    let p = plane.cornersOf (doubles (+0 ∷ +0 ∷ []) ∷ doubles (x1 ∷ y1 ∷ []) ∷ doubles (x2 ∷ y2 ∷ []) ∷ []) in
+    let signed = signedAreaOf binary64 (p .p0) (p .p1) (p .p2) in
+    word (signed .area) ∷ turnNumber (signed .turn) ∷ []
+
 -- the table, over the answers of 8 at thickness 2 and 0 and that of 9
 unfoldable pub tableOf : (plate2 plate0 stvk : Energy) → List Row
 tableOf plate2 plate0 stvk =
@@ -114,12 +143,8 @@ tableOf plate2 plate0 stvk =
     ∷ +12 ∷ +1 ∷ +1
     ∷ +12 ∷ +1 ∷ +1
     ∷ +0 ∷ +0 ∷ +0 ∷ [])
-    -- 2. names 0 2 1: vertices 0, 1, 2: -12, -1, -1 each
-    ∷ masses (0 ∷ 2 ∷ 1 ∷ []) is (0
-    ∷ -12 ∷ -1 ∷ -1
-    ∷ -12 ∷ -1 ∷ -1
-    ∷ -12 ∷ -1 ∷ -1
-    ∷ +0 ∷ +0 ∷ +0 ∷ [])
+    -- 2. names 0 2 1: number 6
+    ∷ masses (0 ∷ 2 ∷ 1 ∷ []) is (6 ∷ sevens)
     -- 3. names 0 1 2 1 3 2: translational masses 12, 24, 24, 12, together 72
     ∷ masses (0 ∷ 1 ∷ 2 ∷ 1 ∷ 3 ∷ 2 ∷ []) is (0
     ∷ +12 ∷ +1 ∷ +1
@@ -141,7 +166,7 @@ tableOf plate2 plate0 stvk =
     ∷ root +2 is (0x3ff6_a09e_667f_3bcd ∷ [])
     -- 6. root of 2^-1074 is 2^-537; of the largest finite double
     ∷ root 0x1 is (0x1e60_0000_0000_0000 ∷ [])
-    ∷ root 0x7fef_ffff_ffff_ffff is (0x5fef_ffff_ffff_ffff ∷ [])
+    ∷ root largest is (0x5fef_ffff_ffff_ffff ∷ [])
     -- 7. root of -0 is -0; of -1 the NaN
     ∷ root -0 is (-0 ∷ [])
     ∷ root -1 is (0x7ff8_0000_0000_0000 ∷ [])
@@ -160,6 +185,16 @@ tableOf plate2 plate0 stvk =
     ∷ (book .number ∷ words (book .w)) is (0 ∷ 0x3ff8_0000_0000_0000 ∷ +0 ∷ +0 ∷ [])
     -- 16. the stock sheet's lambda and myu
     ∷ words (stock .lambda ∷ stock .myu ∷ []) is (0x41c9_9999_9999_999a ∷ 0x41c9_9999_9999_999a ∷ [])
+    -- 17. the area and the turn of a triangle with corner 0 in the origin: left, right
+    ∷ area +1 +0 +0 +1 is (0x3fe0_0000_0000_0000 ∷ left ∷ [])
+    ∷ area +0 +1 +1 +0 is (0xbfe0_0000_0000_0000 ∷ right ∷ [])
+    -- 18. of twice the area 2^-1074 and -2^-1074, halved to a zero of either sign: flat
+    ∷ area 0x1 +0 +0 +1 is (+0 ∷ flat ∷ [])
+    ∷ area +0 +1 0x1 +0 is (-0 ∷ flat ∷ [])
+    -- 19. of an area that overflows to either infinity, and of one that is no number: left, right, flat
+    ∷ area largest +0 +0 largest is (0x7ff0_0000_0000_0000 ∷ left ∷ [])
+    ∷ area +0 largest largest +0 is (0xfff0_0000_0000_0000 ∷ right ∷ [])
+    ∷ area largest largest largest largest is (0x7ff8_0000_0000_0000 ∷ flat ∷ [])
     ∷ []
 
 abbrev pub table : List Row

@@ -20,13 +20,13 @@ fn fill(xs: &mut [f64], from: f64, step: f64) {
     }
 }
 
-// Triangle t names the vertices t, t + 1 and t + 256, counted round.
+// Triangle t names the vertices t, t + 256 and t + 1, counted round: in this order it turns left.
 fn name(triangle: usize, corner: usize) -> usize {
     let first = triangle % 65_536;
     match corner {
         0 => first,
-        1 => (first + 1) % 65_536,
-        _ => (first + 256) % 65_536,
+        1 => (first + 256) % 65_536,
+        _ => (first + 1) % 65_536,
     }
 }
 
@@ -156,17 +156,17 @@ fn main() {
     // The last name one past the last vertex.
     run(Routine::Masses, 131_072, 0, 393_216, 196_608, 65_536);
     // A skin at every limit; with the last triangle refused, since it names vertex 65,535 twice.
-    run(Routine::Skin, 196_608, 196_608, 393_216, 196_608, 255);
+    run(Routine::Skin, 196_608, 196_608, 393_216, 196_608, 0);
     run(Routine::Skin, 196_608, 196_608, 393_216, 196_608, 65_535);
     // A vertex more, a triangle more; a name too many.
-    run(Routine::Skin, 196_611, 196_611, 393_216, 196_611, 255);
-    run(Routine::Skin, 196_608, 196_608, 393_219, 196_608, 255);
-    run(Routine::Skin, 196_608, 196_608, 393_217, 196_608, 255);
+    run(Routine::Skin, 196_611, 196_611, 393_216, 196_611, 0);
+    run(Routine::Skin, 196_608, 196_608, 393_219, 196_608, 0);
+    run(Routine::Skin, 196_608, 196_608, 393_217, 196_608, 0);
     // A number too many at rest, deformed, in the buffer, in all three.
-    run(Routine::Skin, 196_609, 196_608, 393_216, 196_608, 255);
-    run(Routine::Skin, 196_608, 196_609, 393_216, 196_608, 255);
-    run(Routine::Skin, 196_608, 196_608, 393_216, 196_609, 255);
-    run(Routine::Skin, 196_609, 196_609, 393_216, 196_609, 255);
+    run(Routine::Skin, 196_609, 196_608, 393_216, 196_608, 0);
+    run(Routine::Skin, 196_608, 196_609, 393_216, 196_608, 0);
+    run(Routine::Skin, 196_608, 196_608, 393_216, 196_609, 0);
+    run(Routine::Skin, 196_609, 196_609, 393_216, 196_609, 0);
     // The last name one past the last vertex.
     run(Routine::Skin, 196_608, 196_608, 393_216, 196_608, 65_536);
 }

@@ -3,6 +3,7 @@ pub mod Sharp
 pub mod Names
 pub mod Premises
 pub mod Area
+pub mod Turned
 pub mod Share
 pub mod Vertex
 pub mod Sums

@@ -3,13 +3,14 @@
 use mathlib.Core.Path.{_≡_, refl}
 use mathlib.Core.Bool.{true, false}
 use mathlib.Core.List.{List}
+use mathlib.Core.Logic.{inl, inr}
 use Prim.Native.Nat.{ℕ, _+_, _*_, _^_, _≤_, _<_}
-use lib.Dec.{lit<, le→leb}
+use lib.Dec.{lit<, le→leb, lt→ltb}
 use lib.Ieee.{Float, Format, binary64, prec, fits}
 use lib.ListN.{length}
-use Rattle.float.specs.Lists.{every, foldThrees}
+use Rattle.float.specs.Lists.{every, foldThrees, mapThrees}
 use Rattle.refusal.specs.Panel.{withinLimits, badLengthOf, namesBelow}
-use Rattle.places.specs.Plane.{verticesOf, cornersAt}
+use Rattle.places.specs.Plane.{verticesOf, cornersAt, triangles}
 use Rattle.places.specs.Vertex.{namedBy, givenTo}
 use Rattle.rounding.specs.Exact.{_⊟_, mag, sign, sizeOf, value}
 use Rattle.rounding.specs.Sums.{sumOf}
@@ -17,7 +18,7 @@ use Rattle.rounding.specs.Whole.{isWholeUpTo}
 use Rattle.rounding.proofs.Error.{within-apart}
 use Rattle.mitc_tri3.specs.Example.{points, thick, rho}
 use Rattle.mass_bounds.specs.Range.{largestCoordinate, largestFactor, between, inRange}
-use Rattle.mass_bounds.specs.Shares.{namesOf, twiceArea, weight, exactShare, exactMass, sizes}
+use Rattle.mass_bounds.specs.Shares.{namesOf, twiceArea, SomeNegative, weight, exactShare, exactMass}
 use Rattle.mass_bounds.specs.Bounds.{roundings, NearExact}
 use Rattle.mass_bounds.specs.Example.{names, firstNames, untouched, allZero, firstOnly}
 
@@ -32,6 +33,13 @@ right-lengths = refl
 pub right-names : namesBelow (verticesOf points) names ≡ true
 unfolding every
 right-names = refl
+
+-- both triangles turn left
+pub right-turns : SomeNegative binary64 names points → ⊥
+unfolding value twiceArea triangles mapThrees cornersAt
+right-turns (inl h) = lt→ltb _ _ h
+right-turns (inr (inl h)) = lt→ltb _ _ h
+right-turns (inr (inr n)) = n
 
 pub not-untouched : NearExact binary64 names points thick rho untouched → ⊥
 unfolding value sumOf twiceArea weight exactShare givenTo namedBy cornersAt foldThrees
@@ -49,8 +57,8 @@ not-first-only h = le→leb _ _ (h .near 3 0 (lit< tt) (lit< tt) .within)
 -- one buffer near the masses of two panels: at each place the exact masses are no further apart than both bounds together
 pub near-both : (f : Format) {tri2vtx tri2vtx' : List ℕ} {vtx2xy vtx2xy' : List Float} {thick thick' rho rho' : Float} {masses : List Float}
     → NearExact f tri2vtx vtx2xy thick rho masses → NearExact f tri2vtx' vtx2xy' thick' rho' masses → (v k : ℕ) → v < verticesOf vtx2xy → v < verticesOf vtx2xy' → k < 3
-    → sizeOf (exactMass f tri2vtx vtx2xy thick rho k v ⊟ exactMass f tri2vtx' vtx2xy' thick' rho' k v) * 2 ^ prec f
-    ≤ (namesOf tri2vtx vtx2xy v + roundings k) * sizes f tri2vtx vtx2xy thick rho k v + (namesOf tri2vtx' vtx2xy' v + roundings k) * sizes f tri2vtx' vtx2xy' thick' rho' k v
+    → let exact = exactMass f tri2vtx vtx2xy thick rho k v in let exact' = exactMass f tri2vtx' vtx2xy' thick' rho' k v in
+    sizeOf (exact ⊟ exact') * 2 ^ prec f ≤ (namesOf tri2vtx vtx2xy v + roundings k) * sizeOf exact + (namesOf tri2vtx' vtx2xy' v + roundings k) * sizeOf exact'
 near-both f a b v k h h' k3 = within-apart (a .near v k h k3) (b .near v k h' k3)
 
 -- so no buffer, however it came about, is near the masses of both example 3 and example 1: vertex 1 has 24 in the one and 12 in the other

@@ -2,22 +2,23 @@
 use mathlib.Core.Path.{_≡_, refl}
 use mathlib.Core.Bool.{true, false}
 use mathlib.Core.List.{List}
+use mathlib.Core.Logic.{inl, inr}
 use Prim.Native.Nat.{ℕ, _+_, _^_}
-use lib.Dec.{lit≤, le→leb}
+use lib.Dec.{lit≤, le→leb, lt→ltb}
 use lib.Ieee.{Float, binary64, fits, sub, mul, div, ofBits}
 use lib.ListN.{length}
-use Rattle.float.specs.Lists.{_!_, every, foldThrees}
+use Rattle.float.specs.Lists.{_!_, every, foldThrees, mapThrees}
 use Rattle.refusal.specs.Panel.{withinLimits, badLengthOf, namesBelow}
-use Rattle.places.specs.Plane.{verticesOf, cornersAt}
+use Rattle.places.specs.Plane.{verticesOf, cornersAt, triangles}
 use Rattle.places.specs.Places.{addVertex, addTriangle}
 use Rattle.places.specs.Vertex.{namedBy, givenTo}
-use Rattle.rounding.specs.Exact.{mag, sign, value}
+use Rattle.rounding.specs.Exact.{sizeOf, mag, sign, value}
 use Rattle.rounding.specs.Error.{Within}
 use Rattle.rounding.specs.Sums.{sumOf}
 use Rattle.rounding.specs.Whole.{isWholeUpTo}
 use Rattle.masses.specs.Masses.{massOf, addMasses, addAll, massesOf}
 use Rattle.mass_bounds.specs.Range.{largestCoordinate, largestFactor, between, inRange}
-use Rattle.mass_bounds.specs.Shares.{namesOf, twiceArea, weight, exactShare, over, exactMass, sizes}
+use Rattle.mass_bounds.specs.Shares.{namesOf, twiceArea, weight, exactShare, over, exactMass, SomeNegative}
 use Rattle.mass_bounds.specs.Bounds.{roundings}
 use Rattle.mass_bounds.specs.Example.{firstNames, sharpPoints, sharpRho, sharpThick, sharpBefore}
 
@@ -26,8 +27,9 @@ stored = massesOf binary64 firstNames sharpPoints sharpThick sharpRho sharpBefor
 
 -- of vertex 0, with c for the 3 or the 6
 abbrev OffBy : (k c : ℕ) → Type 0
-OffBy k c = Within (2 ^ 53) (namesOf firstNames sharpPoints 0 + c) (over binary64 k) (value binary64 (stored ! k)) (exactMass binary64 firstNames sharpPoints sharpThick sharpRho k 0)
-    (sizes binary64 firstNames sharpPoints sharpThick sharpRho k 0)
+OffBy k c =
+    let exact = exactMass binary64 firstNames sharpPoints sharpThick sharpRho k 0 in
+    Within (2 ^ 53) (namesOf firstNames sharpPoints 0 + c) (over binary64 k) (value binary64 (stored ! k)) exact (sizeOf exact)
 
 pub meets : inRange binary64 largestCoordinate largestFactor firstNames sharpPoints sharpThick sharpRho ≡ true
 unfolding inRange between isWholeUpTo every fits mag sign ofBits
@@ -40,6 +42,11 @@ right-lengths = refl
 pub right-names : namesBelow (verticesOf sharpPoints) firstNames ≡ true
 unfolding every
 right-names = refl
+
+pub right-turns : SomeNegative binary64 firstNames sharpPoints → ⊥
+unfolding value twiceArea triangles mapThrees cornersAt
+right-turns (inl h) = lt→ltb _ _ h
+right-turns (inr n) = n
 
 pub held : OffBy 0 (roundings 0) × OffBy 1 (roundings 1)
 unfolding value sumOf twiceArea weight exactShare givenTo namedBy cornersAt foldThrees sub mul div ofBits massOf addMasses addAll massesOf addVertex addTriangle

@@ -11,15 +11,16 @@ use borrow.Author.Tests.{ltb-true}
 use Rattle.float.specs.Lists.{_!_, every, foldThrees, mapThrees}
 use Rattle.float.proofs.Scan.{both}
 use Rattle.refusal.specs.Panel.{namesBelow}
-use Rattle.rounding.specs.Exact.{Num, Equal, _⊠_, scale, sizeOf, value}
+use Rattle.rounding.specs.Exact.{Num, Equal, _⊠_, scale, OwnSize, value}
 use Rattle.rounding.specs.Sums.{sumOf, exactSum, sumTo, exactSumTo}
+use Rattle.rounding.proofs.Num.{size-equal, size-scale}
 use Rattle.rounding.proofs.Error.{within-more, within-change, within-all}
-use Rattle.rounding.proofs.ExactSums.{sum-append, sum-product, sizes-product, sumTo-add, sumTo-same, sumTo-zero, sumTo-one, le-greatest}
+use Rattle.rounding.proofs.ExactSums.{sum-append, sum-product, own-sumTo, sumTo-add, sumTo-same, sumTo-zero, sumTo-one, le-greatest}
 use Rattle.places.specs.Plane.{verticesOf, cornersAt, triangles}
 use Rattle.places.specs.Vertex.{when, namedBy, givenTo}
 use Rattle.del_geo_core.specs.declared.tri2.Tri2.{Tri2}
 use Rattle.masses.specs.Vertex.{trianglesOf}
-use Rattle.mass_bounds.specs.Shares.{twiceArea, weight, exactShare, exactMass, sizes, namesOf}
+use Rattle.mass_bounds.specs.Shares.{twiceArea, weight, exactShare, exactMass, namesOf}
 use Rattle.mass_bounds.specs.Bounds.{NearExact, AddUp, SumNear}
 
 -- ---- sums of any g over the triangles of each vertex, and over all triangles
@@ -91,16 +92,14 @@ module _ (f : Format) (tri2vtx : List ℕ) (vtx2xy : List Float) (thick rho : Fl
   unfolding exactShare
   exact-thrice = omega (arith, thrice (λ p. (twiceArea f p ⊠ w) .plus), thrice (λ p. (twiceArea f p ⊠ w) .minus), sum-product (twiceArea f) w all)
 
-  sizes-thrice : sumTo (sizes f tri2vtx vtx2xy thick rho 0) n ≡ sumOf (λ p. sizeOf (twiceArea f p)) all * sizeOf w * 3
-  unfolding exactShare
-  sizes-thrice = omega (arith, thrice (λ p. sizeOf (twiceArea f p ⊠ w)), sizes-product (twiceArea f) w all)
-
   pub add-up : AddUp f tri2vtx vtx2xy thick rho
   add-up = omega (arith, exact-thrice)
 
-  -- each vertex's bound, with the greatest count of names for its own
-  pub sum-near : (masses : List Float) → NearExact f tri2vtx vtx2xy thick rho masses → SumNear f tri2vtx vtx2xy thick rho masses
-  sum-near masses near =
-      within-change 1 3 (omega arith) (omega arith) (omega (arith, exact-thrice)) (omega (arith, sizes-thrice))
+  -- each vertex's bound, with the greatest count of names for its own; the sizes of exact masses that are not negative add up to that of their sum
+  pub sum-near : ((v : ℕ) → OwnSize (exactMass f tri2vtx vtx2xy thick rho 0 v)) → (masses : List Float) → NearExact f tri2vtx vtx2xy thick rho masses
+      → SumNear f tri2vtx vtx2xy thick rho masses
+  sum-near own masses near =
+      let sizes = own-sumTo (exactMass f tri2vtx vtx2xy thick rho 0) n own .1 ∙ size-equal _ _ exact-thrice ∙ size-scale 3 (exactSum (twiceArea f) all ⊠ w) in
+      within-change 1 3 (omega arith) (omega arith) (omega (arith, exact-thrice)) (omega (arith, sizes))
       (within-all (λ v. value f (masses ! (v * 3))) _ _ n
       (λ v h. within-more (omega (arith, le-greatest (namesOf tri2vtx vtx2xy) n v h)) (rw (add-zero (v * 3)) at (near .near v 0 h (omega arith)))))

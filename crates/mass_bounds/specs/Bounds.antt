@@ -5,15 +5,15 @@ use mathlib.Core.List.{List}
 use Prim.Native.Nat.{ℕ, zero, suc, _+_, _*_, _^_, _<_}
 use lib.Ieee.{Float, Format, prec}
 use lib.ListN.{length}
-use Rattle.float.specs.Lists.{_!_, every}
+use Rattle.float.specs.Lists.{_!_, every, All}
 use Rattle.refusal.specs.Refusal.{accepted}
 use Rattle.refusal.specs.Panel.{badLengthOf, namesBelow}
-use Rattle.rounding.specs.Exact.{Equal, _⊠_, scale, sizeOf, value}
+use Rattle.rounding.specs.Exact.{Equal, _⊠_, scale, sizeOf, OwnSize, value}
 use Rattle.rounding.specs.Error.{Within}
-use Rattle.rounding.specs.Sums.{sumOf, exactSum, exactSumTo, greatest}
+use Rattle.rounding.specs.Sums.{exactSum, exactSumTo, greatest}
 use Rattle.rounding.specs.Whole.{unit, isNumber}
 use Rattle.places.specs.Plane.{verticesOf, triangles}
-use Rattle.mass_bounds.specs.Shares.{namesOf, twiceArea, weight, over, exactMass, sizes}
+use Rattle.mass_bounds.specs.Shares.{namesOf, twiceArea, SomeNegative, weight, exactShare, over, exactMass}
 
 -- the 3 of d + 3 for the translation, the 6 of d + 6 for the rotations
 abbrev pub roundings : (k : ℕ) → ℕ
@@ -21,13 +21,13 @@ roundings zero = 3
 roundings (suc k) = 6
 
 module _ (f : Format) (tri2vtx : List ℕ) (vtx2xy : List Float) (thick rho : Float) where
-  -- of ANY buffer: three numbers for each vertex, at each place |stored - exact| * 2 ^ prec <= (d + 3) * sizes, or (d + 6) * sizes
+  -- of ANY buffer: three numbers for each vertex, at each place |stored - exact| * 2 ^ prec <= (d + 3) * |exact|, or (d + 6) * |exact|
   pub record NearExact (masses : List Float) : Type 0 where
     pub sized : length masses ≡ verticesOf vtx2xy * 3
     pub numbers : every (isNumber f) masses ≡ true
     pub near : (v k : ℕ) → v < verticesOf vtx2xy → k < 3
-        → Within (2 ^ prec f) (namesOf tri2vtx vtx2xy v + roundings k) (over f k) (value f (masses ! (v * 3 + k)))
-        (exactMass f tri2vtx vtx2xy thick rho k v) (sizes f tri2vtx vtx2xy thick rho k v)
+        → let exact = exactMass f tri2vtx vtx2xy thick rho k v in
+        Within (2 ^ prec f) (namesOf tri2vtx vtx2xy v + roundings k) (over f k) (value f (masses ! (v * 3 + k))) exact (sizeOf exact)
 
   -- the exact masses of all vertices, over 6, are density * thickness * the sum of (x1 - x0)(y2 - y0) - (x2 - x0)(y1 - y0) over the triangles, over 2
   abbrev pub AddUp : Type 0
@@ -35,19 +35,20 @@ module _ (f : Format) (tri2vtx : List ℕ) (vtx2xy : List Float) (thick rho : Fl
       Equal (scale 2 (exactSumTo (exactMass f tri2vtx vtx2xy thick rho 0) (verticesOf vtx2xy)))
       (scale 6 (exactSum (twiceArea f) (triangles tri2vtx vtx2xy) ⊠ weight f 0 thick rho))
 
-  -- the stored translational masses together, within (D + 3) / 2 ^ prec of the same, against density * thickness * the areas without signs; D is the greatest d
+  -- the stored translational masses together, within (D + 3) / 2 ^ prec of density * thickness * that sum, over 2; D is the greatest d
   abbrev pub SumNear : (masses : List Float) → Type 0
   SumNear masses =
-      let all = triangles tri2vtx vtx2xy in
+      let exact = exactSum (twiceArea f) (triangles tri2vtx vtx2xy) ⊠ weight f 0 thick rho in
       let D = greatest (namesOf tri2vtx vtx2xy) (verticesOf vtx2xy) in
-      Within (2 ^ prec f) (D + 3) (2 * unit f ^ 3) (exactSumTo (λ v. value f (masses ! (v * 3))) (verticesOf vtx2xy))
-      (exactSum (twiceArea f) all ⊠ weight f 0 thick rho) (sumOf (λ p. sizeOf (twiceArea f p)) all * sizeOf (weight f 0 thick rho))
+      Within (2 ^ prec f) (D + 3) (2 * unit f ^ 3) (exactSumTo (λ v. value f (masses ! (v * 3))) (verticesOf vtx2xy)) exact (sizeOf exact)
 
   -- Demand 3, of a panel in range for which r was given and whose buffer was `before` and is `after`
   pub record Demand3 (before : List Float) (r : ℕ) (after : List Float) : Type 0 where
-    -- with the right lengths and names it is accepted
-    pub accepts : badLengthOf (verticesOf vtx2xy) (length tri2vtx) (length before) ≡ false → namesBelow (verticesOf vtx2xy) tri2vtx ≡ true → r ≡ accepted
-    -- and where it is
+    -- with the right lengths and names, and no triangle whose exact area is negative, it is accepted
+    pub accepts : badLengthOf (verticesOf vtx2xy) (length tri2vtx) (length before) ≡ false → namesBelow (verticesOf vtx2xy) tri2vtx ≡ true → (SomeNegative f tri2vtx vtx2xy → ⊥)
+        → r ≡ accepted
+    -- and where it is, each exact share is its own size: sums of shares and of their sizes are one
+    pub own-sizes : r ≡ accepted → (k : ℕ) → All (λ p. OwnSize (exactShare f k thick rho p)) (triangles tri2vtx vtx2xy)
     pub near : r ≡ accepted → NearExact after
     pub add-up : r ≡ accepted → AddUp
     pub sum-near : r ≡ accepted → SumNear after

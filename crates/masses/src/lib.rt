@@ -10,7 +10,7 @@ use vec3::V3;
 pub fn mass(thick: f64, rho: f64, p: Tri2) -> V3
     ensures { λ r. ⌜ r ≡ massOf binary64 thick rho p ⌝ }
 {
-    let a012 = tri2::area(p.p0, p.p1, p.p2);
+    let a012 = tri2::area(p.p0, p.p1, p.p2).area;
     let m0 = a012 / 3.0 * rho * thick;
     let m1 = a012 / 3.0 * rho * thick * thick * thick / 12.0;
     V3 {

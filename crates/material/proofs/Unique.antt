@@ -13,9 +13,9 @@ use Rattle.material.specs.declared.Stiffness.{Stiffness}
 pub lame : (f : Format) (stiffness : Stiffness) {r q : LamePair} → r ≡ lameOf f stiffness → q ≡ lameOf f stiffness → r ≡ q
 lame f stiffness = only
 
-pub tests : (f : Format) (stiffness : Stiffness) (othersFinite zeroDivisor badAnswer : Bool) {r q : Tests} → r ≡ testedOf f stiffness othersFinite zeroDivisor badAnswer
-    → q ≡ testedOf f stiffness othersFinite zeroDivisor badAnswer → r ≡ q
-tests f stiffness othersFinite zeroDivisor badAnswer = only
+pub tests : (f : Format) (stiffness : Stiffness) (othersFinite turned zeroDivisor badAnswer : Bool) {r q : Tests} → r ≡ testedOf f stiffness othersFinite turned zeroDivisor badAnswer
+    → q ≡ testedOf f stiffness othersFinite turned zeroDivisor badAnswer → r ≡ q
+tests f stiffness othersFinite turned zeroDivisor badAnswer = only
 
 pub of-words : (f : Format) (s : ℕ) (density thickness a b : Float) {r q : Material} → r ≡ materialOf f s density thickness a b → q ≡ materialOf f s density thickness a b → r ≡ q
 of-words f s density thickness a b = only

@@ -77,8 +77,9 @@ module _ (f : Format) where
         back (inr (y, h)) = rw y h
 
     -- THE law of 7 for a kernel's material that comes as a word and numbers
-    pub word-seven : (others divisor answer : Bool) → kernelNumber (testedOf f (ofWord f s a b) others divisor answer) ≡ badStiffness ↔ ((others && (finite a && finite b) ≡ true) × BadWord f s a b)
+    pub word-seven : (others right divisor answer : Bool)
+        → kernelNumber (testedOf f (ofWord f s a b) others right divisor answer) ≡ badStiffness ↔ ((others && (finite a && finite b) ≡ true) × BadWord f s a b)
     unfolding testedOf
-    word-seven others divisor answer =
-        let seven = seven-exactly (testedOf f (ofWord f s a b) others divisor answer) in
+    word-seven others right divisor answer =
+        let seven = seven-exactly (testedOf f (ofWord f s a b) others right divisor answer) in
         ((λ e. let h = seven .0 e in (rw word-finite at (not-false (others && isFiniteOf (ofWord f s a b)) (h .0)), word-bad .0 (h .1))), λ h. seven .1 (rw (word-finite, h .0), word-bad .1 (h .1)))

@@ -19,16 +19,17 @@ use Rattle.material.specs.declared.Stiffness.{Stiffness}
 use Rattle.material.specs.declared.Stiffness.the-variants.{Young}
 
 -- a kernel's number by its tests
-abbrev numberBy : (input stiffness zero answer : Bool) → ℕ
-numberBy input stiffness zero answer =
-    kernelNumber (record { «bad_input» = input; «bad_stiffness» = stiffness; turned = false; «zero_divisor» = zero; «bad_answer» = answer })
+abbrev numberBy : (input stiffness right zero answer : Bool) → ℕ
+numberBy input stiffness right zero answer =
+    kernelNumber (record { «bad_input» = input; «bad_stiffness» = stiffness; turned = right; «zero_divisor» = zero; «bad_answer» = answer })
 
 -- where 7 is not given, its row is as good as none
-not-7 : (input stiffness zero answer : Bool) → (numberBy input stiffness zero answer ≡ badStiffness → ⊥) → numberBy input stiffness zero answer ≡ numberBy input false zero answer
+not-7 : (input stiffness right zero answer : Bool) → (numberBy input stiffness right zero answer ≡ badStiffness → ⊥)
+    → numberBy input stiffness right zero answer ≡ numberBy input false right zero answer
 unfolding kernelNumber firstOf
-not-7 true stiffness zero answer other = refl
-not-7 false true zero answer other = absurd (other refl)
-not-7 false false zero answer other = refl
+not-7 true stiffness right zero answer other = refl
+not-7 false true right zero answer other = absurd (other refl)
+not-7 false false right zero answer other = refl
 
 module _ (f : Format) (e v : Float) where
   open Ops (ops f) using (_⊕_, _⊖_, _⊗_, one, two)
@@ -45,25 +46,25 @@ module _ (f : Format) (e v : Float) where
       let t = mul-finite f e v (dividend-finite f (e ⊗ v) ((one ⊕ v) ⊗ (one ⊖ two ⊗ v)) lambda) in
       rw (is-true (finite e) (t .0), is-true (finite v) (t .1))
 
-  same-number : (others zero answer : Bool) → isFiniteOf (computed f e v) ≡ true → (kernelNumber (testedOf f (Young e v) others zero answer) ≡ badStiffness → ⊥)
-      → kernelNumber (testedOf f (Young e v) others zero answer) ≡ kernelNumber (testedOf f (computed f e v) others zero answer)
+  same-number : (others right zero answer : Bool) → isFiniteOf (computed f e v) ≡ true → (kernelNumber (testedOf f (Young e v) others right zero answer) ≡ badStiffness → ⊥)
+      → kernelNumber (testedOf f (Young e v) others right zero answer) ≡ kernelNumber (testedOf f (computed f e v) others right zero answer)
   unfolding testedOf isBadOf
-  same-number others zero answer h other = rw (computed-finite h, h) (not-7 _ _ zero answer (rw (computed-finite h) at other))
+  same-number others right zero answer h other = rw (computed-finite h, h) (not-7 _ _ right zero answer (rw (computed-finite h) at other))
 
   -- of a kernel with a stiffness, whatever its numbers are on lambda and myu
-  module _ (others zero : Bool) (numbers : LamePair → Float × List Float × List Float) where
+  module _ (others right zero : Bool) (numbers : LamePair → Float × List Float × List Float) where
     abbrev answer : Stiffness → Energy
     answer stiffness =
         let (w, dw, ddw) = numbers (lameOf f stiffness) in
-        energyOf f (kernelNumber (testedOf f stiffness others zero (badEnergyOf w dw ddw))) w dw ddw
+        energyOf f (kernelNumber (testedOf f stiffness others right zero (badEnergyOf w dw ddw))) w dw ddw
 
     -- THE law that joins the two: what is answered for E and v is what is answered for the pair
     pub young-lame : isFiniteOf (computed f e v) ≡ true → (answer (Young e v) .number ≡ badStiffness → ⊥) → answer (Young e v) ≡ answer (computed f e v)
     unfolding lameOf energyOf
-    young-lame h other = let (w, dw, ddw) = numbers pair in ap (λ number. energyOf f number w dw ddw) (same-number others zero (badEnergyOf w dw ddw) h other)
+    young-lame h other = let (w, dw, ddw) = numbers pair in ap (λ number. energyOf f number w dw ddw) (same-number others right zero (badEnergyOf w dw ddw) h other)
 
     -- once E and v are taken the pair is not looked at, finite or not
     pub young-taken : others ≡ true → isFiniteOf (Young e v) ≡ true → isBadOf f (Young e v) ≡ false
-        → answer (Young e v) ≡ takenOf f zero (numbers pair)
+        → answer (Young e v) ≡ takenOf f right zero (numbers pair)
     unfolding testedOf kernelNumber firstOf
     young-taken o h b = rw (o, h, b)

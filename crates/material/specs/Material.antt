@@ -51,11 +51,11 @@ module _ (f : Format) where
   isBadOf (Young e v) = not (lt zero e && lt (neg one) v && lt v half)
 
   -- what a kernel with this stiffness tests, the other numbers that it reads being finite or not
-  unfoldable pub testedOf : Stiffness → (othersFinite zeroDivisor badAnswer : Bool) → Tests
-  testedOf stiffness othersFinite zeroDivisor badAnswer = record {
+  unfoldable pub testedOf : Stiffness → (othersFinite turned zeroDivisor badAnswer : Bool) → Tests
+  testedOf stiffness othersFinite turned zeroDivisor badAnswer = record {
     «bad_input» = not (othersFinite && isFiniteOf stiffness);
     «bad_stiffness» = isBadOf stiffness;
-    turned = false;
+    turned = turned;
     «zero_divisor» = zeroDivisor;
     «bad_answer» = badAnswer;
   }

@@ -62,13 +62,19 @@ impl Stiffness {
     }
 
     // What a kernel with this stiffness tests, the other numbers that it reads being finite or not.
-    pub fn tests(self, others_finite: bool, zero_divisor: bool, bad_answer: bool) -> Tests
-        ensures { λ r. ⌜ r ≡ testedOf binary64 self «others_finite» «zero_divisor» «bad_answer» ⌝ }
+    pub fn tests(
+        self,
+        others_finite: bool,
+        turned: bool,
+        zero_divisor: bool,
+        bad_answer: bool,
+    ) -> Tests
+        ensures { λ r. ⌜ r ≡ testedOf binary64 self «others_finite» turned «zero_divisor» «bad_answer» ⌝ }
     {
         Tests {
             bad_input: !(others_finite & self.is_finite()),
             bad_stiffness: self.is_bad(),
-            turned: false,
+            turned,
             zero_divisor,
             bad_answer,
         }

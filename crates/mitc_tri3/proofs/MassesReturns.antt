@@ -7,12 +7,12 @@ use Prim.Native.Nat.{ℕ}
 use lib.Ieee.{Float, Format}
 use lib.ListN.{length}
 use Rattle.float.specs.Lists.{allFinite, cleared}
-use Rattle.refusal.specs.Refusal.{accepted, badLength, badName, badInput, badAnswer, firstOf}
+use Rattle.refusal.specs.Refusal.{accepted, badLength, badName, badInput, turned, badAnswer, firstOf}
 use Rattle.refusal.specs.Left.{leftOf}
 use Rattle.refusal.specs.Panel.{badLengthOf, namesBelow}
 use Rattle.places.specs.Plane.{verticesOf}
 use Rattle.masses.specs.Masses.{addAll, massesOf}
-use Rattle.mitc_tri3.specs.Masses.{badInputOf, keeps, numberOf, bufferOf}
+use Rattle.mitc_tri3.specs.Masses.{badInputOf, noneTurned, keeps, numberOf, bufferOf}
 
 module _ (f : Format) (tri : List ℕ) (xy : List Float) (thick rho : Float) (before : List Float) where
   -- what `IsMasses` says of a material of this thickness and density
@@ -41,16 +41,21 @@ module _ (f : Format) (tri : List ℕ) (xy : List Float) (thick rho : Float) (be
         unfolding numberOf firstOf leftOf
         refused-3 e = given badInput (rw (← t1, e1, ← t2, e2, ← t3, e)) refl
 
-        -- the buffer is cleared, and the triangles are added to it
-        module _ (e3 : bad3 ≡ false) {m1 m2 : List Float} (d1 : m1 ≡ cleared f before) (d2 : m2 ≡ addAll f tri xy thick rho m1) {good5 : Bool} (t5 : good5 ≡ allFinite m2) where
-          made : m2 ≡ masses
-          unfolding massesOf
-          made = d2 ∙ rw d1
-
-          pub refused-5 : {m3 : List Float} → not good5 ≡ true → length m2 ≡ length before → m3 ≡ cleared f m2 → Answer badAnswer m3
+        module _ (e3 : bad3 ≡ false) {good6 : Bool} (t6 : good6 ≡ noneTurned f tri xy) where
+          pub refused-6 : not good6 ≡ true → Answer turned before
           unfolding numberOf firstOf leftOf
-          refused-5 e l d = given badAnswer (rw (← t1, e1, ← t2, e2, ← t3, e3, ← made, ← t5, e)) (d ∙ rw l)
+          refused-6 e = given turned (rw (← t1, e1, ← t2, e2, ← t3, e3, ← t6, e)) refl
 
-          pub done : not good5 ≡ false → Answer accepted m2
-          unfolding numberOf firstOf leftOf
-          done e = given accepted (rw (← t1, e1, ← t2, e2, ← t3, e3, ← made, ← t5, e)) made
+          -- the buffer is cleared, and the triangles are added to it
+          module _ (e6 : not good6 ≡ false) {m1 m2 : List Float} (d1 : m1 ≡ cleared f before) (d2 : m2 ≡ addAll f tri xy thick rho m1) {good5 : Bool} (t5 : good5 ≡ allFinite m2) where
+            made : m2 ≡ masses
+            unfolding massesOf
+            made = d2 ∙ rw d1
+
+            pub refused-5 : {m3 : List Float} → not good5 ≡ true → length m2 ≡ length before → m3 ≡ cleared f m2 → Answer badAnswer m3
+            unfolding numberOf firstOf leftOf
+            refused-5 e l d = given badAnswer (rw (← t1, e1, ← t2, e2, ← t3, e3, ← t6, e6, ← made, ← t5, e)) (d ∙ rw l)
+
+            pub done : not good5 ≡ false → Answer accepted m2
+            unfolding numberOf firstOf leftOf
+            done e = given accepted (rw (← t1, e1, ← t2, e2, ← t3, e3, ← t6, e6, ← made, ← t5, e)) made

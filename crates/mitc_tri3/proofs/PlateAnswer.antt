@@ -3,21 +3,26 @@
 use mathlib.Core.Path.{_≡_, _∙_}
 use mathlib.Core.Bool.{true, false, _&&_}
 use mathlib.Core.List.{List}
+use mathlib.Core.Logic.{_↔_}
 use lib.Ieee.{Float, Format}
 use lib.Ieee.Scale.{finite}
 use lib.ListN.{replicate}
 use Rattle.float.specs.Ops.{Ops, ops}
 use Rattle.float.proofs.Unique.{only}
-use Rattle.refusal.specs.Refusal.{accepted, badStiffness, kernelRows, Exactly}
-use Rattle.refusal.specs.Answers.{takenOf}
+use Rattle.refusal.specs.Refusal.{accepted, turned, badStiffness, kernelRows, Exactly}
+use Rattle.refusal.specs.Answers.{energyOf, takenOf}
 use Rattle.refusal.specs.declared.Energy.{Energy}
 use Rattle.refusal.specs.declared.Tests.{Tests}
 use Rattle.refusal.proofs.EnergyAnswer as energy
-use Rattle.material.specs.Material.{isFiniteOf, lameOf, computed, isBadOf, lameMaterial, youngMaterial}
+use Rattle.refusal.proofs.KernelNumber.{six-exactly}
+use Rattle.material.specs.Material.{isFiniteOf, lameOf, computed, isBadOf, testedOf, lameMaterial, youngMaterial}
 use Rattle.material.specs.declared.LamePair.{LamePair}
 use Rattle.material.specs.declared.Material.{Material}
 use Rattle.material.specs.declared.Stiffness.the-variants.{Young}
 use Rattle.material.proofs.Young as young
+use Rattle.del_geo_core.specs.Tri2.{signedAreaOf, turnsRight}
+use Rattle.del_geo_core.specs.declared.tri2.Turn.the-variants.{Right}
+use Rattle.del_geo_core.proofs.Turn.{is-right-exactly}
 use Rattle.corners.specs.Plane as plane
 use Rattle.corners.specs.Space as space
 use Rattle.mitc_tri3.specs.Plate.{numbersOf, divisorIsZero, testsOf, plateOf, IsPlate}
@@ -37,6 +42,15 @@ module _ (f : Format) (p u : List (List Float)) where
       pub numbers-exactly : Exactly (r .number) (kernelRows tests)
       unfolding plateOf
       numbers-exactly = energy.numbers-exactly f tests _ _ _ is
+
+      -- 6 exactly where nothing before it is refused and the triangle's area says that it turns right
+      pub refused-6-exactly : let q = plane.cornersOf p in
+          r .number ≡ turned ↔ ((tests .«bad_input» ≡ false) × (tests .«bad_stiffness» ≡ false) × (signedAreaOf f (q .p0) (q .p1) (q .p2) .turn ≡ Right))
+      unfolding plateOf testsOf testedOf energyOf
+      refused-6-exactly =
+          let (there, back) = six-exactly tests in
+          let (is-right, right) = is-right-exactly (signedAreaOf f (plane.cornersOf p .p0) (plane.cornersOf p .p1) (plane.cornersOf p .p2) .turn) in
+          ((λ e. let (i, (s, t)) = there (rw is at e) in (i, s, is-right t)), λ (i, s, t). rw is (back (i, (s, right t))))
 
       -- after a refusal every value is +0
       pub refused-values : (r .number ≡ accepted → ⊥) → (r .w ≡ zero) × (r .dw ≡ replicate 9 zero) × (r .ddw ≡ replicate 81 zero)
@@ -62,10 +76,10 @@ module _ (f : Format) (p u : List (List Float)) where
     -- THE theorem of Young's modulus and Poisson's ratio: where 7 is not given and the computed pair is finite, the answer is that for the pair
     pub young-is-lame : isFiniteOf (computed f e v) ≡ true → (r .number ≡ badStiffness → ⊥) → IsPlate f p u (lameMaterial density thickness (pair .lambda) (pair .myu)) r
     unfolding testsOf plateOf
-    young-is-lame h other = is ∙ young.young-lame f e v _ _ numbers h (rw is at other)
+    young-is-lame h other = is ∙ young.young-lame f e v _ _ _ numbers h (rw is at other)
 
-    -- finite or not: once E and v are taken, 4 and 5 are left, never 3 (`taken-never-3`), by the source's numbers on the pair
+    -- finite or not: once E and v are taken, 6, 4 and 5 are left, never 3 (`taken-never-3`), by the source's numbers on the pair
     pub young-taken : plane.isFiniteOf (plane.cornersOf p) && space.isFiniteOf (space.cornersOf u) && finite thickness ≡ true → isFiniteOf (Young e v) ≡ true → isBadOf f (Young e v) ≡ false
-        → r ≡ takenOf f (divisorIsZero f (plane.cornersOf p) thickness) (numbers pair)
+        → r ≡ takenOf f (turnsRight f (plane.cornersOf p)) (divisorIsZero f (plane.cornersOf p) thickness) (numbers pair)
     unfolding testsOf plateOf
-    young-taken c h b = is ∙ young.young-taken f e v _ _ numbers c h b
+    young-taken c h b = is ∙ young.young-taken f e v _ _ _ numbers c h b

@@ -14,6 +14,7 @@ use Rattle.material.specs.declared.Material.{Material}
 use Rattle.material.specs.declared.Stiffness.{Stiffness}
 use Rattle.corners.specs.Plane as plane
 use Rattle.corners.specs.Space as space
+use Rattle.del_geo_core.specs.Tri2.{turnsRight}
 use Rattle.del_geo_core.specs.declared.tri2.Tri2.{Tri2}
 use Rattle.del_geo_core.specs.declared.tri3.Tri3.{Tri3}
 use Rattle.plate.specs.Plate.{guOf, wDwDdwPlateBendingOf}
@@ -32,7 +33,7 @@ module _ (f : Format) (p : Tri2) (u : Tri3) (thickness : Float) where
     unfoldable pub testsOf : Tests
     testsOf =
         let (w, dw, ddw) = numbersOf (lameOf f stiffness) in
-        testedOf f stiffness (plane.isFiniteOf p && space.isFiniteOf u && finite thickness) (divisorIsZero f p thickness) (badEnergyOf w dw ddw)
+        testedOf f stiffness (plane.isFiniteOf p && space.isFiniteOf u && finite thickness) (turnsRight f p) (divisorIsZero f p thickness) (badEnergyOf w dw ddw)
 
     unfoldable pub plateOf : Energy
     plateOf = let (w, dw, ddw) = numbersOf (lameOf f stiffness) in energyOf f (kernelNumber testsOf) w dw ddw

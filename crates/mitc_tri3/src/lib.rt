@@ -7,6 +7,7 @@ mod panel;
 
 use corners::plane;
 use corners::space;
+use del_geo_core::tri2;
 use material::Material;
 use refusal::ACCEPTED;
 use refusal::BAD_ANSWER;
@@ -14,6 +15,7 @@ use refusal::BAD_INPUT;
 use refusal::BAD_LENGTH;
 use refusal::BAD_NAME;
 use refusal::Energy;
+use refusal::TURNED;
 
 // The energy, bending and shear, of a plate over the plane corners p, with its gradient and Hessian by u: at each corner the displacement in z and the rotations about x and y. Of the
 // material the thickness and the stiffness enter.
@@ -31,6 +33,7 @@ pub fn w_dw_ddw_plate_bending(p: [[f64; 2]; 3], u: [[f64; 3]; 3], material: Mate
     let ddw = plate::ddw(s);
     let tests = stiffness.tests(
         plane::is_finite(p) & space::is_finite(u) & float::is_finite(thk),
+        tri2::turns_right(p),
         refusal::zero_divisor(s.gu.x.by, s.gu.y.by, s.gu.z.by),
         refusal::bad_energy(w, dw, ddw),
     );
@@ -38,7 +41,7 @@ pub fn w_dw_ddw_plate_bending(p: [[f64; 2]; 3], u: [[f64; 3]; 3], material: Mate
 }
 
 // The lumped masses of a panel of plates, three for each vertex: for its translation and for its two rotations. Of the material the density and the thickness enter. Nothing is written
-// before every name is looked at.
+// before every triangle is looked at.
 pub fn mass_lumped_plate_bending(
     tri2vtx: &[usize],
     vtx2xy: &[f64],
@@ -58,6 +61,9 @@ pub fn mass_lumped_plate_bending(
     }
     if panel::bad_input(tri2vtx, vtx2xy, thick, rho) {
         return BAD_INPUT;
+    }
+    if !panel::none_turned(tri2vtx, vtx2xy) {
+        return TURNED;
     }
     lists::clear(vtx2mass);
     panel::add_all(tri2vtx, vtx2xy, thick, rho, vtx2mass);

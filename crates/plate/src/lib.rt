@@ -53,7 +53,7 @@ fn gd(p: Tri2, thk: f64) -> Matrix3
 pub fn state_of(p: Tri2, u: Tri3, thk: f64, lambda: f64, myu: f64) -> State
     ensures { λ r. ⌜ r ≡ stateOf binary64 p u thk lambda myu ⌝ }
 {
-    let area = tri2::area(p.p0, p.p1, p.p2);
+    let area = tri2::area(p.p0, p.p1, p.p2).area;
     let gd = gd(p, thk);
     let gu = curve_linear_coords::inverse(gd.x, gd.y, gd.z);
     let gu_gu = edges::gu_gu(gu);

@@ -8,20 +8,21 @@ use lib.ListN.{replicate}
 use borrow.Author.Tests.{eq-eqb, ne-eqb}
 use Rattle.float.specs.Ops.{Ops, ops}
 use Rattle.refusal.specs.Answers.{badEnergyOf, energyOf, takenOf}
-use Rattle.refusal.specs.Refusal.{accepted, badInput, zeroDivisor, badAnswer, _⇒_, firstOf, kernelRows, kernelNumber, Exactly}
+use Rattle.refusal.specs.Refusal.{accepted, badInput, turned, zeroDivisor, badAnswer, _⇒_, firstOf, kernelRows, kernelNumber, Exactly}
 use Rattle.refusal.specs.declared.Energy.{Energy}
 use Rattle.refusal.specs.declared.Tests.{Tests}
 use Rattle.refusal.proofs.KernelNumber.{kernel-exactly}
 
 -- 3 is not among what is left
-pub taken-never-3 : (f : Format) (zero : Bool) (numbers : Float × List Float × List Float) → takenOf f zero numbers .number ≡ badInput → ⊥
+pub taken-never-3 : (f : Format) (right zero : Bool) (numbers : Float × List Float × List Float) → takenOf f right zero numbers .number ≡ badInput → ⊥
 unfolding energyOf firstOf
-taken-never-3 f zero (w, dw, ddw) = never zero (badEnergyOf w dw ddw)
+taken-never-3 f right zero (w, dw, ddw) = never right zero (badEnergyOf w dw ddw)
   where
-    never : (zero answer : Bool) → firstOf (zero ⇒ zeroDivisor ∷ answer ⇒ badAnswer ∷ []) ≡ badInput → ⊥
-    never true answer e = omega (arith, e)
-    never false true e = omega (arith, e)
-    never false false e = omega (arith, e)
+    never : (right zero answer : Bool) → firstOf (right ⇒ turned ∷ zero ⇒ zeroDivisor ∷ answer ⇒ badAnswer ∷ []) ≡ badInput → ⊥
+    never true zero answer e = omega (arith, e)
+    never false true answer e = omega (arith, e)
+    never false false true e = omega (arith, e)
+    never false false false e = omega (arith, e)
 
 module _ (f : Format) (t : Tests) (w : Float) (dw ddw : List Float) {r : Energy} (is : r ≡ energyOf f (kernelNumber t) w dw ddw) where
   open Ops (ops f) using (zero)

@@ -1,13 +1,13 @@
 -- When a kernel gives which number, test by test: the ladder's law on a kernel's rows.
 use mathlib.Core.Path.{_≡_, refl}
 use mathlib.Core.Bool.{true, false}
-use mathlib.Core.Logic.{_↔_, inl, inr}
+use mathlib.Core.Logic.{_↔_}
 use Prim.Native.Nat.{_<_}
 use native.Mathlib.Omega.{arith}
 use Rattle.float.specs.Lists.{every}
-use Rattle.refusal.specs.Refusal.{accepted, badName, badStiffness, Cause, kernelRows, kernelNumber, Exactly}
+use Rattle.refusal.specs.Refusal.{accepted, badName, turned, badStiffness, kernelRows, kernelNumber, Exactly}
 use Rattle.refusal.specs.declared.Tests.{Tests}
-use Rattle.refusal.proofs.Ladder.{exactly, first-above}
+use Rattle.refusal.proofs.Ladder.{exactly, alone-exactly, first-above}
 
 pub kernel-exactly : (t : Tests) → Exactly (kernelNumber t) (kernelRows t)
 unfolding kernelNumber every
@@ -15,18 +15,13 @@ kernel-exactly t = exactly (kernelRows t) refl
 
 -- 7 exactly where the numbers are finite and the stiffness is bad
 pub seven-exactly : (t : Tests) → kernelNumber t ≡ badStiffness ↔ ((t .«bad_input» ≡ false) × (t .«bad_stiffness» ≡ true))
-seven-exactly t = ((λ e. there (given .0 e)), λ h. given .1 (inr (h .0, inl (h .1, refl))))
-  where
-    given : kernelNumber t ≡ badStiffness ↔ Cause badStiffness (kernelRows t)
-    given = kernel-exactly t .refused-exactly badStiffness (λ (e : badStiffness ≡ accepted). omega arith)
+unfolding kernelNumber every
+seven-exactly t = alone-exactly badStiffness (λ (e : badStiffness ≡ accepted). omega arith) (kernelRows t) refl
 
-    there : Cause badStiffness (kernelRows t) → (t .«bad_input» ≡ false) × (t .«bad_stiffness» ≡ true)
-    there (inl (_, e)) = absurd (omega (arith, e))
-    there (inr (i, inl (s, _))) = (i, s)
-    there (inr (_, inr (_, inl (_, e)))) = absurd (omega (arith, e))
-    there (inr (_, inr (_, inr (_, inl (_, e))))) = absurd (omega (arith, e))
-    there (inr (_, inr (_, inr (_, inr (_, inl (_, e)))))) = absurd (omega (arith, e))
-    there (inr (_, inr (_, inr (_, inr (_, inr (_, n)))))) = absurd n
+-- 6 exactly where they are, the stiffness is none of the bad ones, and the triangle turns right
+pub six-exactly : (t : Tests) → kernelNumber t ≡ turned ↔ ((t .«bad_input» ≡ false) × ((t .«bad_stiffness» ≡ false) × (t .turned ≡ true)))
+unfolding kernelNumber every
+six-exactly t = alone-exactly turned (λ (e : turned ≡ accepted). omega arith) (kernelRows t) refl
 
 -- a kernel that refuses gives none of the numbers of lengths and names
 pub kernel-above : (t : Tests) → (kernelNumber t ≡ accepted → ⊥) → badName < kernelNumber t

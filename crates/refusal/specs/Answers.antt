@@ -9,7 +9,7 @@ use lib.ListN.{replicate}
 use Rattle.float.specs.Lists.{allFinite}
 use Rattle.float.specs.Numbers.{isZero}
 use Rattle.float.specs.Ops.{Ops, ops}
-use Rattle.refusal.specs.Refusal.{accepted, zeroDivisor, badAnswer, _⇒_, firstOf}
+use Rattle.refusal.specs.Refusal.{accepted, turned, zeroDivisor, badAnswer, _⇒_, firstOf}
 use Rattle.refusal.specs.declared.Energy.{Energy}
 
 -- one of a kernel's three divisors is zero
@@ -29,6 +29,6 @@ module _ (f : Format) where
       let keep = eqb number accepted in
       record { number = number; w = cond keep w zero; dw = cond keep dw (replicate 9 zero); ddw = cond keep ddw (replicate 81 zero) }
 
-  -- what is answered once all that is read is taken: 4 and 5 are left, by the divisors and the numbers
-  abbrev pub takenOf : (zero : Bool) (numbers : Float × List Float × List Float) → Energy
-  takenOf zero (w, dw, ddw) = energyOf (firstOf (zero ⇒ zeroDivisor ∷ badEnergyOf w dw ddw ⇒ badAnswer ∷ [])) w dw ddw
+  -- what is answered once all that is read is taken: 6, 4 and 5 are left, by the turn, the divisors and the numbers
+  abbrev pub takenOf : (right zero : Bool) (numbers : Float × List Float × List Float) → Energy
+  takenOf right zero (w, dw, ddw) = energyOf (firstOf (right ⇒ turned ∷ zero ⇒ zeroDivisor ∷ badEnergyOf w dw ddw ⇒ badAnswer ∷ [])) w dw ddw

@@ -31,7 +31,7 @@ pub(crate) fn inputs(helper: u64) -> usize
 
 fn plane_area(x: [f64; 24]) -> f64 {
     let p = corners::plane::corners(input::plane(x));
-    tri2::area(p.p0, p.p1, p.p2)
+    tri2::area(p.p0, p.p1, p.p2).area
 }
 
 fn points(x: [f64; 24]) -> Tri3 {

@@ -12,7 +12,6 @@ use borrow.Author.Tests.{eq-eqb, ne-eqb}
 use Rattle.float.specs.Lists.{All}
 use Rattle.rounding.specs.Exact.{Num, Equal, OwnSize, _⊠_, sizeOf}
 use Rattle.rounding.specs.Sums.{sumOf, exactSum, sumTo, exactSumTo, greatest}
-use Rattle.rounding.proofs.Num.{size-product}
 
 -- ---- over a list
 module _ {A : Type 0} where
@@ -33,11 +32,6 @@ module _ {A : Type 0} where
     unfolding sumOf
     sum-product [] = omega arith
     sum-product (a ∷ l) = omega (arith, sum-product l)
-
-    pub sizes-product : (l : List A) → sumOf (λ a. sizeOf (y a ⊠ w)) l ≡ sumOf (λ a. sizeOf (y a)) l * sizeOf w
-    unfolding sumOf
-    sizes-product [] = omega arith
-    sizes-product (a ∷ l) = rw (size-product (y a) w, sizes-product l) (omega arith)
 
   -- where each term is its own size, so is the sum, and it is the sum of the sizes
   module _ (y : A → Num) where

@@ -106,6 +106,6 @@ module _ (f : Format) (vtx2ini vtx2def : List Float) (e v : Float) (h : isFinite
 -- finite or not: once E and v are taken, a triangle with finite corners has the source's numbers on the pair, with 4 and 5, never 3 (`taken-never-3`)
 pub triangle-taken : (f : Format) (vtx2ini vtx2def : List Float) (e v : Float) (i0 i1 i2 : ℕ) → let p0 = cornersAt vtx2ini i0 i1 i2 in let p1 = cornersAt vtx2def i0 i1 i2 in
     cornersFinite p0 && cornersFinite p1 ≡ true → isFiniteOf (Young e v) ≡ true → isBadOf f (Young e v) ≡ false
-    → answerOf f vtx2ini vtx2def (Young e v) i0 i1 i2 ≡ takenOf f (divisorIsZero f p0) (stvkNumbers f p0 p1 (lameOf f (Young e v)))
+    → answerOf f vtx2ini vtx2def (Young e v) i0 i1 i2 ≡ takenOf f false (divisorIsZero f p0) (stvkNumbers f p0 p1 (lameOf f (Young e v)))
 unfolding answerOf
 triangle-taken f vtx2ini vtx2def e v i0 i1 i2 = stvk-taken f _ _ e v

@@ -90,6 +90,7 @@ pub fn wdwddw_(p0: [[f64; 3]; 3], p1: [[f64; 3]; 3], material: Material) -> Ener
     let ddw = stvk::ddw(s);
     let tests = stiffness.tests(
         space::is_finite(p0) & space::is_finite(p1),
+        false,
         refusal::zero_divisor(s.rest.gd0_z.by, s.rest.gu0.x.by, s.rest.gu0.y.by),
         refusal::bad_energy(w, dw, ddw),
     );

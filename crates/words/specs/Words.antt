@@ -7,7 +7,7 @@ use lib.Dec.{eqb}
 use lib.ListN.{length, getD}
 use Rattle.float.specs.Lists.{table}
 use Rattle.float.specs.Text.{ascii}
-use Rattle.refusal.specs.Refusal.{accepted, badLength, badName, badInput, badStiffness, zeroDivisor, badAnswer, badFile}
+use Rattle.refusal.specs.Refusal.{accepted, badLength, badName, badInput, badStiffness, turned, zeroDivisor, badAnswer, badFile}
 
 -- each number that is given, with its meaning
 abbrev pub meanings : List (ℕ × List ℕ)
@@ -17,6 +17,7 @@ meanings =
     (badName, ascii "a triangle names a vertex that does not exist") ∷
     (badInput, ascii "a number that is read is a NaN or an infinity") ∷
     (badStiffness, ascii "a stiffness is none that a sheet can have") ∷
+    (turned, ascii "a triangle turns right: its corners run clockwise") ∷
     (zeroDivisor, ascii "a divisor is zero") ∷
     (badAnswer, ascii "the finished answer has a NaN or an infinity in it") ∷
     (badFile, ascii "the mesh file is not as it has to be") ∷ []

@@ -33,6 +33,7 @@ pub fn meaning(number: u32, words: &mut [u8; 64]) -> usize
         refusal::BAD_NAME => put(b"a triangle names a vertex that does not exist", words),
         refusal::BAD_INPUT => put(b"a number that is read is a NaN or an infinity", words),
         refusal::BAD_STIFFNESS => put(b"a stiffness is none that a sheet can have", words),
+        refusal::TURNED => put(b"a triangle turns right: its corners run clockwise", words),
         refusal::ZERO_DIVISOR => put(b"a divisor is zero", words),
         refusal::BAD_ANSWER => put(b"the finished answer has a NaN or an infinity in it", words),
         refusal::BAD_FILE => put(b"the mesh file is not as it has to be", words),

@@ -22,7 +22,8 @@ w-dw-ddw-plate-bending-spec = tie.close (tie.spec
     (λ c κs. tt)
     (λ c κs. tt)
     (λ c κs. tt)
-    (λ c. let number = c .before in let tests = number .before in let answer = tests .before in let divisor = answer .before in let finite3 = divisor .before in
+    (λ c κs. tt)
+    (λ c. let number = c .before in let tests = number .before in let answer = tests .before in let divisor = answer .before in let right = divisor .before in let finite3 = right .before in
     let finite2 = finite3 .before in let finite1 = finite2 .before in let ddw = finite1 .before in let dw = ddw .before in let w = dw .before in let s = w .before in
     let lame = s .before in let u = lame .before in
     rw (
@@ -31,6 +32,7 @@ w-dw-ddw-plate-bending-spec = tie.close (tie.spec
       tests .tests .ensures,
       answer .bad-energy .ensures,
       divisor .zero-divisor .ensures,
+      right .turns-right .ensures,
       finite3 .is-finite3 .ensures,
       finite2 .is-finite2 .ensures,
       finite1 .is-finite .ensures,
