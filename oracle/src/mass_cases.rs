@@ -166,16 +166,21 @@ pub fn grid(triangles: u64) -> impl Iterator<Item = [f64; 2]> {
 }
 
 /// Its triangles, the grid's vertices counted from `first`; one at a row's end
-/// joins two rows.
+/// joins two rows. All turn left.
 pub fn grid_names(triangles: u64, first: u64) -> Vec<u64> {
     let corners = |triangle: u64| {
-        let v = first + triangle / 2;
-        match triangle % 2 {
+        let v = triangle / 2;
+        let [a, b, c] = match triangle % 2 {
             0 => [v, v + 1, v + ROW],
             _ => [v + 1, v + ROW + 1, v + ROW],
+        };
+        match v % ROW + 1 {
+            ROW => [a, c, b],
+            _ => [a, b, c],
         }
     };
-    (0..triangles).flat_map(corners).collect()
+    let names = (0..triangles).flat_map(corners);
+    names.map(|name| first + name).collect()
 }
 
 /// A run of `count` calls for `speed`, on a grid after vertices that are not
