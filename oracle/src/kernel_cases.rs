@@ -6,6 +6,7 @@ use crate::material_cases::{drawn_unused, either, lame};
 use crate::numbers::{self, moved};
 use crate::random::Random;
 use crate::record::{Record, BENDING, GREEN_LAGRANGE, PLATE, STRAIN, STVK};
+use crate::turn_cases::mostly_left;
 
 /// What the original takes: corners at rest come first, then what is known of them
 /// deformed, then the single numbers.
@@ -109,7 +110,11 @@ pub fn generated(kind: u64, random: &mut Random) -> Record {
     }
     let case = layout.case(&inputs).with_unused(drawn_unused(random));
     let stiffness = either(random, case.material.stiffness.given());
-    case.with_stiffness(stiffness).record()
+    let record = case.with_stiffness(stiffness).record();
+    match kind {
+        PLATE => mostly_left(random, record),
+        _ => record,
+    }
 }
 
 /// Inputs of the original.
@@ -266,20 +271,21 @@ pub fn with_zero_divisors(random: &mut Random, layout: &Layout, places: &[usize]
 }
 
 /// Inputs of an energy whose value at `place` alone is infinite: one where it
-/// is the largest by far, with stiffnesses raised until it overflows.
+/// is the largest by far, with stiffnesses raised until it overflows. A plate may
+/// turn either way.
 pub fn with_one_infinite(random: &mut Random, layout: &Layout, place: usize) -> Vec<f64> {
-    let refusal = |inputs: &[f64]| kernels::answer(layout.kind, inputs).number;
+    let values = |inputs: &[f64]| kernels::values_and_divisors(layout.kind, inputs).0;
     loop {
         let inputs = numbers::similar(random, layout.inputs(), 2, 5);
-        let values = kernels::answer(layout.kind, &inputs).values;
-        let top = values[place].abs();
-        let others = [&values[..place], &values[place + 1..]].concat();
+        let usual = values(&inputs);
+        let top = usual[place].abs();
+        let others = [&usual[..place], &usual[place + 1..]].concat();
         if top < 2.0 || others.iter().any(|x| x.abs() > 0.9 * top) {
             continue;
         }
         let below = stiffer(&inputs, f64::MAX / top * 0.95);
         let above = stiffer(&inputs, f64::MAX / top * 1.05);
-        if (refusal(&below), refusal(&above)) == (0, 5) {
+        if kernels::finite(&values(&below)) && !kernels::finite(&values(&above)) {
             return above;
         }
     }

@@ -9,6 +9,7 @@ use crate::numbers::{self, power, scaled};
 use crate::random::Random;
 use crate::record::{Record, BENDING, GREEN_LAGRANGE, PLATE, STRAIN, STVK};
 use crate::strain_samples::{green_lagrange, strain};
+use crate::turn_samples;
 
 const DRAWN: usize = 330;
 
@@ -27,6 +28,10 @@ pub fn sample(kind: u64) -> Vec<Record> {
         .collect();
     if kind == STVK || kind == PLATE {
         records.extend(material_samples::kernel(kind));
+    }
+    if kind == PLATE {
+        records.extend(turn_samples::twins(&records));
+        records.extend(turn_samples::plates());
     }
     records
 }

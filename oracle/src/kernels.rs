@@ -7,6 +7,7 @@ use crate::helpers::points;
 use crate::material::Material;
 use crate::record::{self, numbers_of, Record, PLATE_CORNERS, STVK_CORNERS};
 use crate::traced::{self, Traced};
+use crate::turn::Turn;
 use del_fem_cpu::{mitc_tri3, quadratic_bending, stvk_tri3};
 use num_traits::{AsPrimitive, Float};
 use std::ops::{AddAssign, MulAssign};
@@ -16,21 +17,23 @@ pub trait Number: Float + AddAssign + MulAssign + 'static {}
 impl Number for f64 {}
 impl Number for Traced {}
 
-/// A call: the numbers that 3 looks at, whether 7 has no cause, and what the original
-/// is run on.
+/// A call: the numbers that 3 looks at, whether 7 has no cause, whether 6 has one, and what
+/// the original is run on.
 pub struct Call {
     pub given: Vec<f64>,
     pub admitted: bool,
+    pub turned: bool,
     pub inputs: Vec<f64>,
 }
 
 impl Call {
     /// Of a kernel without a material, or with the plate's thickness and a Lamé pair behind
     /// the corners.
-    fn plain(inputs: &[f64]) -> Call {
+    fn plain(kind: u64, inputs: &[f64]) -> Call {
         Call {
             given: inputs.to_vec(),
             admitted: true,
+            turned: turned(kind, inputs),
             inputs: inputs.to_vec(),
         }
     }
@@ -39,7 +42,7 @@ impl Call {
         let corners = match record.kind {
             record::STVK => STVK_CORNERS,
             record::PLATE => PLATE_CORNERS,
-            _ => return Call::plain(&numbers_of(&record.words)),
+            _ => return Call::plain(record.kind, &numbers_of(&record.words)),
         };
         let (corners, material) = record.words.split_at(corners);
         Call::with_material(record.kind, &numbers_of(corners), &Material::read(material))
@@ -56,13 +59,19 @@ impl Call {
         Call {
             given: [&before[..], &stiffness.given()].concat(),
             admitted: stiffness.admitted(),
+            turned: turned(kind, corners),
             inputs: [&before[..], &stiffness.lame()].concat(),
         }
     }
 }
 
+/// Of the kernels the plate alone asks which way its rest corners turn.
+fn turned(kind: u64, corners: &[f64]) -> bool {
+    kind == record::PLATE && Turn::of(&points(&corners[..6])) == Turn::Right
+}
+
 pub fn answer(kind: u64, inputs: &[f64]) -> Answer {
-    answer_of(kind, &Call::plain(inputs))
+    answer_of(kind, &Call::plain(kind, inputs))
 }
 
 pub fn with_material(kind: u64, corners: &[f64], material: &Material) -> Answer {
@@ -140,6 +149,8 @@ fn number(call: &Call, divisors: &[f64], values: &[f64]) -> u64 {
         3
     } else if !call.admitted {
         7
+    } else if call.turned {
+        6
     } else if divisors.contains(&0.0) {
         4
     } else if !finite(values) {

@@ -96,3 +96,20 @@ fn tri2vtx(names: usize, last: u64) -> Vec<u64> {
 fn name(place: u64) -> u64 {
     (place / 3 + [0, 256, 1][place as usize % 3]) % VERTICES
 }
+
+#[cfg(test)]
+mod tests {
+    use super::*;
+    use crate::masses::turn;
+    use crate::turn::Turn;
+
+    /// But for the last one, which names a vertex twice.
+    #[test]
+    fn triangles_turn_left() {
+        let (coordinates, names, _, last) = PANELS[0];
+        let (xy, names) = (squares(0, coordinates), tri2vtx(names, last));
+        let mut turns = names.chunks(3).map(|names| turn(names, &xy));
+        assert_eq!(turns.next_back(), Some(Turn::Flat));
+        assert!(turns.all(|turn| turn == Turn::Left));
+    }
+}

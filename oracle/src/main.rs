@@ -35,6 +35,11 @@ mod strain_tests;
 #[cfg(test)]
 mod tests;
 mod traced;
+mod turn;
+mod turn_cases;
+mod turn_samples;
+#[cfg(test)]
+mod turn_tests;
 
 use random::Random;
 use record::Record;

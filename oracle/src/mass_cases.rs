@@ -5,6 +5,7 @@ use crate::material_cases::{drawn_unused, either, lame};
 use crate::numbers;
 use crate::random::Random;
 use crate::record::{words_of, Record, MASSES};
+use crate::turn_cases::some_right;
 
 /// Vertices in a row of a grid.
 const ROW: u64 = 256;
@@ -80,7 +81,8 @@ pub fn generated(random: &mut Random) -> Record {
     let size = if random.percent(10) { LARGE } else { SMALL };
     let panel = drawn(random, size);
     let pair = drawn_unused(random);
-    panel.with_stiffness(either(random, pair)).record()
+    let record = panel.with_stiffness(either(random, pair)).record();
+    some_right(random, record)
 }
 
 pub fn drawn(random: &mut Random, size: Size) -> Panel {

@@ -6,6 +6,7 @@ use crate::material_samples;
 use crate::numbers::power;
 use crate::random::Random;
 use crate::record::{Record, MASSES};
+use crate::turn_samples;
 
 const DRAWN: usize = 420;
 
@@ -20,6 +21,8 @@ pub fn sample() -> Vec<Record> {
         .map(|(i, panel)| panel.with_stiffness(lame(unused(i))).record())
         .collect();
     records.extend(material_samples::masses());
+    records.extend(turn_samples::twins(&records));
+    records.extend(turn_samples::panels());
     records
 }
 

@@ -6,6 +6,7 @@ use crate::kernels::{finite, same};
 use crate::material::{self, Material};
 use crate::record::{numbers_of, MASSES_LENGTHS};
 use crate::traced::{self, Traced};
+use crate::turn::Turn;
 use del_fem_cpu::mitc_tri3;
 
 pub const MOST_VERTICES: usize = 65_536;
@@ -51,7 +52,20 @@ fn refused_before(names: &[u64], xy: &[f64], thick: f64, rho: f64, masses: usize
     let named_finite = names
         .iter()
         .all(|name| finite(&xy[*name as usize * 2..][..2]));
-    (!(named_finite && finite(&[thick, rho]))).then_some(3)
+    if !(named_finite && finite(&[thick, rho])) {
+        return Some(3);
+    }
+    let right = |names: &[u64]| turn(names, xy) == Turn::Right;
+    names.chunks(3).any(right).then_some(6)
+}
+
+/// Of the triangle with these three names.
+pub fn turn(names: &[u64], xy: &[f64]) -> Turn {
+    let corners = [0, 1, 2].map(|i| {
+        let at = names[i] as usize * 2;
+        [xy[at], xy[at + 1]]
+    });
+    Turn::of(&corners)
 }
 
 fn lengths_wrong(vertices: usize, names: usize, masses: usize) -> bool {

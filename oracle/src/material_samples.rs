@@ -40,11 +40,11 @@ pub fn kernel(kind: u64) -> Vec<Record> {
     records
 }
 
-fn numbered<T>(list: Vec<T>) -> impl Iterator<Item = (usize, T)> {
+pub fn numbered<T>(list: Vec<T>) -> impl Iterator<Item = (usize, T)> {
     list.into_iter().enumerate()
 }
 
-fn records_of(faulty: Vec<Faulty>) -> impl Iterator<Item = Record> {
+pub fn records_of(faulty: Vec<Faulty>) -> impl Iterator<Item = Record> {
     faulty.into_iter().map(|(_, record)| record)
 }
 
@@ -105,7 +105,7 @@ fn large(kind: u64) -> Case {
 }
 
 /// Sets of two or more of these numbers.
-fn sets(numbers: &[u64]) -> Vec<Vec<u64>> {
+pub fn sets(numbers: &[u64]) -> Vec<Vec<u64>> {
     let of = |set: u32| {
         let among = |i: &usize| set >> i & 1 == 1;
         let chosen = (0..numbers.len()).filter(among);
@@ -117,7 +117,7 @@ fn sets(numbers: &[u64]) -> Vec<Vec<u64>> {
 
 /// A stiffness in which 7 holds and, in some variants, 3 or 5; where 7 does not, half are
 /// Lamé pairs. Of E and v that are not finite only an E of +infinity is none of 7's.
-fn faulty_stiffness(faults: &[u64], variant: usize) -> Stiffness {
+pub fn faulty_stiffness(faults: &[u64], variant: usize) -> Stiffness {
     let has = |number: u64| faults.contains(&number);
     let [mut e, mut v] = if has(5) && variant % 2 == 1 {
         [f64::MAX, LAST_RATIOS[1]]
@@ -159,7 +159,7 @@ pub fn faulty_kernels(kind: u64) -> Vec<Faulty> {
     all
 }
 
-fn faulty_kernel(kind: u64, faults: &[u64], variant: usize) -> Case {
+pub fn faulty_kernel(kind: u64, faults: &[u64], variant: usize) -> Case {
     let layout = layout(kind);
     let (rest, odd) = (layout.rest(), variant % 2 == 1);
     let mut case = large(kind).with_stiffness(faulty_stiffness(faults, variant));
@@ -224,7 +224,7 @@ pub fn faulty_masses() -> Vec<Faulty> {
     all
 }
 
-fn faulty_panel(faults: &[u64], variant: usize) -> Panel {
+pub fn faulty_panel(faults: &[u64], variant: usize) -> Panel {
     let points = [0.0, 0.0, 6.0, 0.0, 0.0, 6.0, 6.0, 6.0];
     let mut panel = Panel::of(&points, &BOTH, 0.3, 0.7);
     if faults.contains(&5) {

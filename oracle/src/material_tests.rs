@@ -10,6 +10,7 @@ use crate::numbers::moved;
 use crate::random::Random;
 use crate::record::{Record, MASSES, MASSES_LENGTHS, PLATE, PLATE_CORNERS, SKIN, SKIN_LENGTHS};
 use crate::record::{STVK, STVK_CORNERS};
+use crate::turn_samples::{faulty_panels, faulty_plates};
 use crate::{generated, material_samples, sample};
 use std::collections::BTreeMap;
 
@@ -187,9 +188,10 @@ fn the_sample_has_materials() {
         };
         assert!(records.len() >= 200, "kind {kind}: {}", records.len());
         let all = sample(kind);
-        assert_eq!(all[all.len() - records.len()..], records);
         let lame = |r: &&Record| r.words[before] == 2;
-        assert!(all[..all.len() - records.len()].iter().all(|r| lame(&r)));
+        let start = all.windows(records.len()).position(|part| part == records);
+        let start = start.expect("one after the other in the sample");
+        assert!(all[..start].iter().all(|r| lame(&r)));
         let count = records.iter().filter(lame).count();
         assert!(
             count >= 30 && records.len() - count >= 100,
@@ -203,8 +205,9 @@ fn the_sample_has_materials() {
 fn generated_materials() {
     for (kind, before) in KINDS {
         let refusals: &[u64] = match kind {
-            MASSES => &[0, 1, 2, 3, 5],
+            MASSES => &[0, 1, 2, 3, 5, 6],
             SKIN => &[0, 1, 2, 3, 4, 5, 7],
+            PLATE => &[0, 3, 4, 5, 6, 7],
             _ => &[0, 3, 4, 5, 7],
         };
         let mut random = Random::of(23);
@@ -226,7 +229,7 @@ fn generated_materials() {
 }
 
 /// The first of these that holds is given.
-const LADDER: [u64; 6] = [1, 2, 3, 7, 4, 5];
+const LADDER: [u64; 7] = [1, 2, 3, 7, 6, 4, 5];
 
 fn given_first(faulty: &[Faulty]) {
     for (faults, record) in faulty {
@@ -244,13 +247,20 @@ fn pairs_of(numbers: &[u64]) -> Vec<[u64; 2]> {
     pairs.filter(|[a, b]| a != b).collect()
 }
 
+fn all_faulty_plates() -> Vec<Faulty> {
+    [faulty_kernels(PLATE), faulty_plates()].concat()
+}
+
 #[test]
 fn of_several_refusals_the_first_is_given() {
     for (faulty, numbers) in [
-        (faulty_kernels(STVK), &LADDER[2..]),
-        (faulty_kernels(PLATE), &LADDER[2..]),
-        (faulty_masses(), &[1, 2, 3, 5]),
-        (faulty_skins(), &LADDER),
+        (faulty_kernels(STVK), &[3, 7, 4, 5][..]),
+        (all_faulty_plates(), &LADDER[2..]),
+        (
+            [faulty_masses(), faulty_panels()].concat(),
+            &[1, 2, 3, 6, 5],
+        ),
+        (faulty_skins(), &[1, 2, 3, 7, 4, 5]),
     ] {
         given_first(&faulty);
         for pair in pairs_of(numbers) {
@@ -282,7 +292,7 @@ fn said_of_kernels_and_true() {
     let triangles = faulty_skins().iter().filter_map(first_triangle).collect();
     for (kind, faulty) in [
         (STVK, faulty_kernels(STVK)),
-        (PLATE, faulty_kernels(PLATE)),
+        (PLATE, all_faulty_plates()),
         (STVK, triangles),
     ] {
         assert!(faulty.len() >= 24);
@@ -292,6 +302,7 @@ fn said_of_kernels_and_true() {
             let held = [
                 (3, !finite(&call.given)),
                 (7, !call.admitted),
+                (6, call.turned),
                 (4, divisors.contains(&0.0)),
                 (5, !finite(&values)),
             ];

@@ -6,10 +6,11 @@ use crate::material::Material;
 use crate::material_cases::lame;
 use std::fmt::Write as _;
 
-const REFUSALS: [(u64, &str); 4] = [
+const REFUSALS: [(u64, &str); 5] = [
     (1, "a length or a limit is wrong"),
     (2, "a triangle names a vertex that does not exist"),
     (3, "a number is NaN or infinite"),
+    (6, "a triangle turns right: its corners run clockwise"),
     (5, "a mass is NaN or infinite"),
 ];
 
@@ -106,5 +107,12 @@ mod tests {
     #[test]
     fn example_three() {
         assert!(lines().contains("\nsum of translations 72\n"));
+    }
+
+    #[test]
+    fn turned_round() {
+        let refused = "refused: a triangle turns right: its corners run clockwise (6)\n";
+        assert_eq!(square([0, 2, 1, 1, 2, 3]).lines().count(), 2);
+        assert!(square([0, 2, 1, 1, 2, 3]).ends_with(refused));
     }
 }
