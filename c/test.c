@@ -1,7 +1,7 @@
 /*
- * Calls every exported function from C, on the starred examples of docs/01-scope.md 7, on skins worked by hand, on materials of every kind and on mesh files of meshes/files, and looks at the
- * raw bits of NaNs, which no statement sees: the root's, and those that a refused call has to leave in a lent buffer. What takes a material is called in both forms. It is run at the root of
- * the repository.
+ * Calls every exported function from C, on the starred examples of docs/01-scope.md 7, on skins worked by hand, on materials of every kind, on triangles that turn either way and on mesh
+ * files of meshes/files, and looks at the raw bits of NaNs, which no statement sees: the root's, and those that a refused call has to leave in a lent buffer. What takes a material is called
+ * in both forms. It is run at the root of the repository.
  */
 #include "del_fem.h"
 #include <stdio.h>
@@ -75,13 +75,13 @@ static int untouched(const double *xs, int from, int n) {
 }
 
 static void version(void) {
-    const uint32_t numbers[9] = {0, 1, 2, 3, 7, 4, 5, 8, 4294967295u};
-    const char *const meanings[9] = {"accepted", "a length or a limit is wrong", "a triangle names a vertex that does not exist", "a number that is read is a NaN or an infinity",
-        "a stiffness is none that a sheet can have", "a divisor is zero", "the finished answer has a NaN or an infinity in it", "the mesh file is not as it has to be",
-        "no number that this version gives"};
+    const uint32_t numbers[11] = {0, 1, 2, 3, 7, 6, 4, 5, 8, 9, 4294967295u};
+    const char *const meanings[11] = {"accepted", "a length or a limit is wrong", "a triangle names a vertex that does not exist", "a number that is read is a NaN or an infinity",
+        "a stiffness is none that a sheet can have", "a triangle turns right: its corners run clockwise", "a divisor is zero", "the finished answer has a NaN or an infinity in it",
+        "the mesh file is not as it has to be", "no number that this version gives", "no number that this version gives"};
     int said = 1;
     check("the archive fits the header", del_fem_version() == DEL_FEM_VERSION);
-    for (int i = 0; i < 9; i++) {
+    for (int i = 0; i < 11; i++) {
         char words[DEL_FEM_WORDS + 1], want[DEL_FEM_WORDS] = {0};
         memset(words, 'x', sizeof words);
         memcpy(want, meanings[i], strlen(meanings[i]));
@@ -242,10 +242,10 @@ static void masses(void) {
     const size_t one[3] = {0, 1, 2}, turned[3] = {0, 2, 1}, panel[6] = {0, 1, 2, 1, 3, 2};
     const size_t four[4] = {0, 1, 2, 3}, missing[3] = {0, 1, 4}, far[3] = {0, 1, 3};
     const double left[12] = {12, 1, 1, 12, 1, 1, 12, 1, 1, 0, 0, 0};
-    const double right[12] = {-12, -1, -1, -12, -1, -1, -12, -1, -1, 0, 0, 0};
+    const double below[12] = {-12, -1, -1, -12, -1, -1, -12, -1, -1, 0, 0, 0};
     double mass[13];
     check("masses, example 1", masses_of(one, 3, mass) == DEL_FEM_ACCEPTED && are(mass, left));
-    check("masses, example 2", masses_of(turned, 3, mass) == DEL_FEM_ACCEPTED && are(mass, right));
+    check("masses, example 2", masses_of(turned, 3, mass) == DEL_FEM_TURNED && untouched(mass, 0, 13));
     check("masses, example 3", masses_of(panel, 6, mass) == DEL_FEM_ACCEPTED && are(mass, EXAMPLE_3));
     check("masses write no further", untouched(mass, 12, 1));
     check("masses, example 4: no names", masses_of(one, 0, mass) == DEL_FEM_ACCEPTED && all_plus_zero(mass, 12));
@@ -263,6 +263,7 @@ static void masses(void) {
     check("masses, an infinite density, no names", masses_with(panel, 0, XY, del_fem_lame(infinity, 1, 0, 1), mass, 12) == DEL_FEM_BAD_INPUT && untouched(mass, 0, 13));
     check("masses, a coordinate that is a NaN", masses_with(panel, 6, xy, m, mass, 12) == DEL_FEM_BAD_INPUT && untouched(mass, 0, 13));
     check("masses, a NaN at a vertex without a name", masses_with(one, 3, xy, m, mass, 12) == DEL_FEM_ACCEPTED && are(mass, left) && untouched(mass, 12, 1));
+    check("masses of a density below 0", masses_with(one, 3, XY, del_fem_lame(-2, 1, 0, 1), mass, 12) == DEL_FEM_ACCEPTED && are(mass, below));
     check("masses too large", masses_with(panel, 6, XY, del_fem_lame(2, huge, 0, 1), mass, 12) == DEL_FEM_BAD_ANSWER && all_plus_zero(mass, 12) && untouched(mass, 12, 1));
 }
 
@@ -507,6 +508,162 @@ static void unused_numbers(void) {
     check("StVK, E 0, density and thickness NaNs", energy_refused(stvk_of(UNIT, LONG, del_fem_young(nan, nan, 0, 0.25)), DEL_FEM_BAD_STIFFNESS));
 }
 
+/* The plane area by the scope's operations; compiled without contraction of them. */
+static double area_of(const double p[3][2]) {
+    return ((p[1][0] - p[0][0]) * (p[2][1] - p[0][1]) - (p[2][0] - p[0][0]) * (p[1][1] - p[0][1])) * 0.5;
+}
+
+/* One triangle gives this number, and the buffer holds what belongs to it; vertex 3 has no name. */
+static int masses_give(const double p[3][2], uint32_t number) {
+    const size_t names[3] = {0, 1, 2};
+    const double a = area_of(p), m0 = 0.0 + a / 3 * 2 * 1, m1 = 0.0 + a / 3 * 2 * 1 * 1 * 1 / 12;
+    const double want[12] = {m0, m1, m1, m0, m1, m1, m0, m1, m1, 0, 0, 0};
+    double xy[8] = {0}, mass[13];
+    memcpy(xy, p, 6 * sizeof *xy);
+    if (masses_with(names, 3, xy, del_fem_lame(2, 1, 0, 1), mass, 12) != number) {
+        return 0;
+    }
+    switch (number) {
+    case DEL_FEM_ACCEPTED:
+        return are(mass, want) && untouched(mass, 12, 1);
+    case DEL_FEM_BAD_ANSWER:
+        return all_plus_zero(mass, 12) && untouched(mass, 12, 1);
+    default:
+        return untouched(mass, 0, 13);
+    }
+}
+
+static int plate_gives(const double p[3][2], del_fem_material m, uint32_t number) {
+    const struct energy a = plate_of(p, LIFTED, m);
+    return number == DEL_FEM_ACCEPTED ? a.number == number && untouched(a.values, DEL_FEM_ENERGY_VALUES, 1) : energy_refused(a, number);
+}
+
+/*
+ * Each triangle with the numbers of its masses and of its plate, whose thickness is 1. The last three are in a line where they are read as decimals; the doubles next to those make a left, a
+ * right and a right triangle by the exact area, which does not count.
+ */
+static void ways_round(void) {
+    const double tiny = of_bits(1), small = of_bits(0x1A70000000000000), huge = of_bits(HUGE_BITS), half = huge / 2; /* small: 2^-600 */
+    const struct {
+        const char *what;
+        double p[3][2];
+        uint32_t masses, plate;
+    } rows[] = {
+        {"counterclockwise, from corner 0", {{0, 0}, {1, 0}, {0, 1}}, 0, 0},
+        {"counterclockwise, from corner 1", {{1, 0}, {0, 1}, {0, 0}}, 0, 0},
+        {"counterclockwise, from corner 2", {{0, 1}, {0, 0}, {1, 0}}, 0, 0},
+        {"clockwise, from corner 0", {{0, 0}, {0, 1}, {1, 0}}, 6, 6},
+        {"clockwise, from corner 2", {{0, 1}, {1, 0}, {0, 0}}, 6, 6},
+        {"clockwise, from corner 1", {{1, 0}, {0, 0}, {0, 1}}, 6, 6},
+        {"corners in a line", {{0, 0}, {1, 0}, {2, 0}}, 0, 4},
+        {"two corners in one place", {{0, 0}, {1, 1}, {1, 1}}, 0, 4},
+        {"three corners in one place", {{3, 5}, {3, 5}, {3, 5}}, 0, 4},
+        {"an area of -0 from a zero", {{0, 0}, {-1, 0}, {1, 0}}, 0, 4},
+        {"twice the area 2^-1074", {{0, 0}, {tiny, 0}, {0, 1}}, 0, 4},
+        {"twice the area -2^-1074", {{0, 0}, {0, 1}, {tiny, 0}}, 0, 4},
+        {"an area of 2^-1074", {{0, 0}, {2 * tiny, 0}, {0, 1}}, 0, 5},
+        {"an area of -2^-1074", {{0, 0}, {0, 1}, {2 * tiny, 0}}, 6, 6},
+        {"clockwise, its products too small for a double", {{0, 0}, {0, small}, {small, 0}}, 0, 4},
+        {"an area of +infinity", {{0, 0}, {huge, 0}, {0, huge}}, 5, 5},
+        {"an area of -infinity", {{0, 0}, {0, huge}, {huge, 0}}, 6, 6},
+        {"counterclockwise, its area a NaN", {{0, 0}, {huge, half}, {half, huge}}, 5, 5},
+        {"clockwise, its area a NaN", {{0, 0}, {half, huge}, {huge, half}}, 5, 5},
+        {"in a line, by its doubles right", {{0.1, 8.6}, {2.9, 5.1}, {4.1, 3.6}}, 6, 6},
+        {"in a line, by its doubles left", {{1.8, 0.2}, {4.6, 3.4}, {3.9, 2.6}}, 0, 0},
+        {"in a line, by its doubles flat", {{0.8, 5.7}, {5.1, 6.2}, {9.4, 6.7}}, 0, 4},
+    };
+    for (size_t i = 0; i < sizeof rows / sizeof *rows; i++) {
+        char what[80];
+        snprintf(what, sizeof what, "masses, %s", rows[i].what);
+        check(what, masses_give(rows[i].p, rows[i].masses));
+        snprintf(what, sizeof what, "plate, %s", rows[i].what);
+        check(what, plate_gives(rows[i].p, del_fem_lame(2, 1, 0, 1), rows[i].plate));
+    }
+    const double edge[3][2] = {{0, 0}, {0, 1}, {tiny, 0}};
+    check("plate of thickness 2, twice the area -2^-1074: no dot is zero", plate_gives(edge, del_fem_lame(2, 2, 0, 1), DEL_FEM_BAD_ANSWER));
+}
+
+/* Panels with a triangle that turns right. Whatever is returned is no answer, and the buffer keeps its bytes. */
+static void turned_panels(void) {
+    const double nan = of_bits(NAN_BITS), infinity = of_bits(INFINITY_BITS), huge = of_bits(HUGE_BITS);
+    const del_fem_material m = del_fem_lame(2, 1, 0, 1), none = {0xFFFFFFFF, 2, 1, nan, nan};
+    const double nowhere[8] = {0, 0, 6, 0, 0, 6, 6, nan}, far[8] = {0, 0, huge, 0, 0, huge, 6, 6};
+    const struct {
+        const char *what;
+        size_t len, names[9];
+        const double *xy;
+        del_fem_material m;
+        size_t places;
+        uint32_t number;
+    } rows[] = {
+        {"masses, the first of three turned", 9, {0, 2, 1, 1, 3, 2, 0, 1, 3}, XY, m, 12, 6},
+        {"masses, the second of three turned", 9, {0, 1, 2, 1, 2, 3, 0, 1, 3}, XY, m, 12, 6},
+        {"masses, the third of three turned", 9, {0, 1, 2, 1, 3, 2, 0, 3, 1}, XY, m, 12, 6},
+        {"masses, all three turned", 9, {2, 1, 0, 2, 3, 1, 3, 1, 0}, XY, m, 12, 6},
+        {"masses, one turned after one without an area", 6, {0, 0, 1, 0, 2, 1}, XY, m, 12, 6},
+        {"masses, one turned that takes away what the first gave", 6, {0, 1, 2, 0, 2, 1}, XY, m, 12, 6},
+        {"masses, turned, a density below 0", 3, {0, 2, 1}, XY, del_fem_lame(-2, 1, 0, 1), 12, 6},
+        {"masses, turned, density and thickness 0", 3, {0, 2, 1}, XY, del_fem_lame(0, 0, 0, 1), 12, 6},
+        {"masses, turned, no stiffness at all", 3, {0, 2, 1}, XY, none, 12, 6},
+        {"masses, turned, a NaN at a vertex without a name", 3, {0, 2, 1}, nowhere, m, 12, 6},
+        {"masses, 1 before 6: four names", 4, {0, 2, 1, 0}, XY, m, 12, 1},
+        {"masses, 1 before 6: a place too many", 3, {0, 2, 1}, XY, m, 13, 1},
+        {"masses, 2 before 6: a name 4 in the next triangle", 6, {0, 2, 1, 0, 1, 4}, XY, m, 12, 2},
+        {"masses, 2 before 6: a name 4 in the triangle before", 6, {0, 1, 4, 0, 2, 1}, XY, m, 12, 2},
+        {"masses, 3 before 6: a thickness that is a NaN", 3, {0, 2, 1}, XY, del_fem_lame(2, nan, 0, 1), 12, 3},
+        {"masses, 3 before 6: an infinite density", 3, {0, 2, 1}, XY, del_fem_lame(infinity, 1, 0, 1), 12, 3},
+        {"masses, 3 before 6: a NaN in the next triangle", 6, {0, 2, 1, 1, 3, 2}, nowhere, m, 12, 3},
+        {"masses, 6 before 5: a mass too large in it", 3, {0, 2, 1}, XY, del_fem_lame(2, huge, 0, 1), 12, 6},
+        {"masses, 6 before 5: a mass too large before it", 6, {0, 1, 2, 1, 2, 3}, XY, del_fem_lame(2, huge, 0, 1), 12, 6},
+        {"masses, 6 before 5: an area too large before it", 6, {0, 1, 2, 0, 2, 3}, far, m, 12, 6},
+    };
+    for (size_t i = 0; i < sizeof rows / sizeof *rows; i++) {
+        double mass[13];
+        check(rows[i].what, masses_with(rows[i].names, rows[i].len, rows[i].xy, rows[i].m, mass, rows[i].places) == rows[i].number && untouched(mass, 0, 13));
+    }
+    const size_t thin[9] = {0, 0, 1, 0, 1, 2, 2, 2, 2};
+    const double left[12] = {12, 1, 1, 12, 1, 1, 12, 1, 1, 0, 0, 0};
+    double mass[13];
+    check("masses, triangles without an area beside one", masses_with(thin, 9, XY, m, mass, 12) == DEL_FEM_ACCEPTED && are(mass, left) && untouched(mass, 12, 1));
+}
+
+static const double BEHIND[3][2] = {{0, 0}, {0, 1}, {1, 0}};
+
+static void order_of_six(void) {
+    const double nan = of_bits(NAN_BITS), infinity = of_bits(INFINITY_BITS), huge = of_bits(HUGE_BITS);
+    const del_fem_material good = del_fem_young(1400, 2, 1, 0.25), wrong = del_fem_young(1400, 2, 0, 0.25), thin = del_fem_young(1400, 0, 1, 0.25), word = {4, 1400, 2, 1, 0.25};
+    const double far[3][3] = {{0, 0, 0}, {huge, 0, 0}, {0, huge, 0}}, nowhere[3][3] = {{0, 0, 0}, {nan, 0, 0}, {0, 1, 0}}, no_plan[3][2] = {{0, 0}, {0, 1}, {infinity, 0}};
+    check("plate, turned", energy_refused(plate_of(BEHIND, LIFTED, good), DEL_FEM_TURNED));
+    check("plate, turned, a density that is a NaN", energy_refused(plate_of(BEHIND, LIFTED, del_fem_young(nan, 2, 1, 0.25)), DEL_FEM_TURNED));
+    check("plate, turned, a thickness below 0", energy_refused(plate_of(BEHIND, LIFTED, del_fem_lame(1400, -2, 0, 1)), DEL_FEM_TURNED));
+    check("plate, 3 before 6: corners, displacements, thickness, stiffness",
+        energy_refused(plate_of(no_plan, LIFTED, good), DEL_FEM_BAD_INPUT) && energy_refused(plate_of(BEHIND, nowhere, good), DEL_FEM_BAD_INPUT)
+            && energy_refused(plate_of(BEHIND, LIFTED, del_fem_young(1400, nan, 1, 0.25)), DEL_FEM_BAD_INPUT)
+            && energy_refused(plate_of(BEHIND, LIFTED, del_fem_lame(1400, 2, nan, 1)), DEL_FEM_BAD_INPUT)
+            && energy_refused(plate_of(BEHIND, LIFTED, del_fem_lame(1400, 2, 0, infinity)), DEL_FEM_BAD_INPUT));
+    check("plate, 7 before 6: E 0, a word that is none",
+        energy_refused(plate_of(BEHIND, LIFTED, wrong), DEL_FEM_BAD_STIFFNESS) && energy_refused(plate_of(BEHIND, LIFTED, word), DEL_FEM_BAD_STIFFNESS));
+    check("plate, 6 before 4", energy_refused(plate_of(BEHIND, LIFTED, thin), DEL_FEM_TURNED) && energy_refused(plate_of(CORNER, LIFTED, thin), DEL_FEM_ZERO_DIVISOR));
+    check("plate, 6 before 5", energy_refused(plate_of(BEHIND, far, good), DEL_FEM_TURNED) && energy_refused(plate_of(CORNER, far, good), DEL_FEM_BAD_ANSWER));
+    check("plate, 6 before 5: an infinite lambda",
+        energy_refused(plate_of(BEHIND, LIFTED, infinite_lambda(2)), DEL_FEM_TURNED) && energy_refused(plate_of(CORNER, LIFTED, infinite_lambda(2)), DEL_FEM_BAD_ANSWER));
+}
+
+/* The sheets of examples 9, 10 and 15 and the square skin, each triangle with two corners exchanged. */
+static void others_turn_either_way(void) {
+    const double wide[3][2] = {{0, 0}, {0, 1}, {2, 0}}, pulled[3][3] = {{0, 0, 0}, {0, 1, 0}, {2, 0, 0}}, wider[3][3] = {{0, 0, 0}, {0, 1, 0}, {4, 0, 0}};
+    const double rest[3][3] = {{0, 0, 0}, {0, 1, 0}, {1, 0, 0}}, square[12] = {-6, -1.5, 0, 6, -1.5, 0, -6, 1.5, 0, 6, 1.5, 0};
+    const size_t turned[6] = {0, 2, 1, 1, 2, 3};
+    double values[DEL_FEM_STRAIN_VALUES];
+    uint32_t number = del_fem_stvk_tri3_wdw(BEHIND, pulled, values);
+    check("strain, turned", number == DEL_FEM_ACCEPTED && values[0] == 1.5 && values[1] == 0 && values[2] == 0);
+    number = del_fem_stvk_tri3_wdw_green_lagrange(wide, wider, values);
+    check("Green-Lagrange strain, turned", number == DEL_FEM_ACCEPTED && values[0] == 1.5 && values[1] == 0 && values[2] == 0);
+    const struct energy a = stvk_of(rest, pulled, del_fem_lame(1400, 2, 0, 1));
+    check("StVK, turned", a.number == DEL_FEM_ACCEPTED && a.values[0] == 1.125 && a.values[1] == -3 && a.values[4] == 0 && a.values[7] == 3);
+    check("skin, turned", accepted(skin_of_four(PULLED, turned, 6, del_fem_lame(1400, 2, 2, 1)), 4.5, square));
+}
+
 /* What the three calls over a file give, and the file. */
 struct mesh {
     uint8_t file[2048];
@@ -604,6 +761,10 @@ static void meshes(void) {
     check("masses, example 3, from a mesh file",
         is_flat(points, square.points_length) && masses_with(tri2vtx, 6, vtx2xy, del_fem_lame(2, 1, 0, 1), mass, 12) == DEL_FEM_ACCEPTED && are(mass, EXAMPLE_3)
             && untouched(mass, 12, 1));
+    for (size_t i = 0; i < 6; i++) {
+        tri2vtx[i] = del_fem_mesh_name(cells, square.cells_length, i / 3, 2 - i % 3);
+    }
+    check("masses of the square, its names read backwards", masses_with(tri2vtx, 6, vtx2xy, del_fem_lame(2, 1, 0, 1), mass, 12) == DEL_FEM_TURNED && untouched(mass, 0, 13));
     for (size_t i = 1; i < 9; i++) {
         here = here && bits(del_fem_mesh_coordinate(any.file + any.points_place, any.points_length, i / 3, i % 3)) == far[i];
     }
@@ -636,6 +797,10 @@ int main(void) {
     order_of_seven();
     other_words();
     unused_numbers();
+    ways_round();
+    turned_panels();
+    order_of_six();
+    others_turn_either_way();
     meshes();
     printf("%d checks passed, %d failed\n", passed, failed);
     return failed != 0;

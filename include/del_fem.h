@@ -35,18 +35,24 @@ extern "C" {
  * Which header the archive fits: 1000 times the major number and the minor one. The major number grows where a call of before no longer means the same, the minor one where something was
  * added. A program that was built with this header may use an archive of the same major number and no lower minor one.
  */
-#define DEL_FEM_VERSION 2000u
+#define DEL_FEM_VERSION 3000u
 uint32_t del_fem_version(void);
 
 /*
- * What is returned: the first whose condition holds, in the order 1, 2, 3, 7, 4, 5 (01-scope 2.1); each routine lists its own in that order. Of a skin's triangles the first in the list
+ * What is returned: the first whose condition holds, in the order 1, 2, 3, 7, 6, 4, 5 (01-scope 2.1); each routine lists its own in that order. Of a skin's triangles the first in the list
  * that is refused gives its own.
+ *
+ * The corners of a triangle have to run counterclockwise (x to the right, y up), for masses and plate. Where 6 is returned, exchange two of its three names, or two of a plate's corners
+ * together with their u; of a wall that is drawn from behind, do so in every triangle. What decides is the plane area ((x1 - x0)(y2 - y0) - (x2 - x0)(y1 - y0)) times 0.5, each operation
+ * rounded (01-scope 3.2): the triangle turns left where it is above 0, right where it is below, infinities included, and is flat otherwise, at a zero of either sign and at a NaN. So of corners
+ * that are nearly in a line rounding decides.
  */
 #define DEL_FEM_ACCEPTED 0u      /* none of the others */
 #define DEL_FEM_BAD_LENGTH 1u    /* masses and skin alone: a length or a limit is wrong */
 #define DEL_FEM_BAD_NAME 2u      /* masses and skin alone: a triangle names a vertex that does not exist */
 #define DEL_FEM_BAD_INPUT 3u     /* a number that the routine reads is a NaN or an infinity */
 #define DEL_FEM_BAD_STIFFNESS 7u /* StVK, plate and skin alone: a stiffness is none that a sheet can have */
+#define DEL_FEM_TURNED 6u        /* masses and plate alone: a triangle turns right, its corners run clockwise */
 #define DEL_FEM_ZERO_DIVISOR 4u  /* a kernel's divisor is zero, of either sign */
 #define DEL_FEM_BAD_ANSWER 5u    /* the finished answer has a NaN or an infinity in it */
 #define DEL_FEM_BAD_FILE 8u      /* mesh files alone: the file is not as it has to be */
@@ -150,10 +156,11 @@ static inline uint32_t del_fem_stvk(const double p0[3][3], const double p1[3][3]
 }
 
 /*
- * The energy of a plate over the plane corners p, its gradient and Hessian by u: at each corner the displacement in z and the rotations about x and y (01-scope 5.2). Of the material it
- * looks at thickness, stiffness, a and b.
+ * The energy of a plate over the plane corners p, its gradient and Hessian by u: at each corner the displacement in z and the rotations about x and y (01-scope 5.2). The corners have to run
+ * counterclockwise. Of the material it looks at thickness, stiffness, a and b.
  * values: w at 0; dw[ino][idof] at 1 + ino * 3 + idof; ddw[ino][jno][idof * 3 + jdof] at 10 + (ino * 3 + jno) * 9 + idof * 3 + jdof.
- * Returns 3 where a number of p or u, thickness, a or b is not finite; 7; 4 where a dot of the inverse is zero; 5; else 0.
+ * Returns 3 where a number of p or u, thickness, a or b is not finite; 7; 6 where the corners turn right; 4 where a dot of the inverse is zero, as of a triangle without an area or a
+ * plate without thickness; 5; else 0.
  */
 uint32_t del_fem_mitc_tri3_w_dw_ddw_plate_bending(const double p[3][2], const double u[3][3], uint32_t stiffness, double density, double thickness, double a, double b,
     double values[DEL_FEM_ENERGY_VALUES]);
@@ -165,12 +172,12 @@ static inline uint32_t del_fem_plate(const double p[3][2], const double u[3][3],
 /*
  * The lumped masses of a panel (01-scope 5.3). Each length counts entries. Of the material it looks at density and thickness; whatever stiffness, a and b are, it never returns 7.
  * The panel is flat: coordinates are x and y in its own plane. Of a mesh in space take them only where all z are one value: a wall that stands upright would weigh 0, a folded one too
- * little, and number 0 would be returned with either. A triangle whose corners run clockwise takes its mass away.
+ * little, and number 0 may be returned with either. The corners of every triangle have to run counterclockwise; one without an area is taken and adds no mass.
  * tri2vtx: three vertices for each triangle. vtx2xy: two coordinates for each vertex; a left-over last number is not read. vtx2mass: three masses for each vertex, for its translation and its
  * two rotations.
  * Returns 1 where there are more than DEL_FEM_MAX_VERTICES vertices or DEL_FEM_MAX_TRIANGLES triangles, where 3 does not divide tri2vtx_len, or where vtx2mass_len is not three times the
- * vertices; 2 where a vertex that is named does not exist; 3 where density, thickness or a coordinate of a named vertex is not finite; 5; else 0.
- * vtx2mass holds the masses after 0, +0 throughout after 5, and what it held before after 1, 2 and 3.
+ * vertices; 2 where a vertex that is named does not exist; 3 where density, thickness or a coordinate of a named vertex is not finite; 6 where a triangle of the list turns right; 5; else 0.
+ * vtx2mass holds the masses after 0, +0 throughout after 5, and what it held before after 1, 2, 3 and 6. A mass is below 0 only where density or thickness is.
  */
 uint32_t del_fem_mitc_tri3_mass_lumped_plate_bending(const size_t *tri2vtx, size_t tri2vtx_len, const double *vtx2xy, size_t vtx2xy_len, uint32_t stiffness,
     double density, double thickness, double a, double b, double *vtx2mass, size_t vtx2mass_len);

@@ -21,8 +21,9 @@
 //!
 //! # From a mesh file to masses
 //!
-//! Masses take x and y. A wall that stands upright weighs 0 there and a folded one too little, with `Ok` and no word said; so the wall has to lie flat, all its z one
-//! value:
+//! Masses take x and y. A wall that stands upright weighs 0 there and a folded one too little, and no word need be said; so the wall has to lie flat, all its z one
+//! value. The corners of its triangles have to run counterclockwise, x to the right and y up; a wall that is drawn from behind is refused with [`Refusal::Turned`], until
+//! two names of each triangle are exchanged:
 //!
 //! ```
 //! use del_fem::{mesh, mitc_tri3, Material};
@@ -54,6 +55,11 @@
 //!
 //! let folded = std::fs::read("../meshes/files/folded.vtk")?;
 //! assert!(masses(&folded, Material::STOCK_SHEET).is_err());
+//!
+//! let mut behind = file; // the square once more, corners 1 and 2 of each triangle exchanged
+//! behind[194..226].chunks_mut(16).for_each(|cell| cell[8..].rotate_left(4));
+//! let refused = masses(&behind, Material::STOCK_SHEET).unwrap_err();
+//! assert_eq!(refused.to_string(), "refused (6): a triangle turns right: its corners run clockwise");
 //! # Ok::<(), Box<dyn Error>>(())
 //! ```
 
@@ -71,7 +77,7 @@ pub use material::{Material, Stiffness};
 pub use refusal::Refusal;
 
 /// The version of the header that this crate is written after: 1000 times the major number and the minor one.
-pub const VERSION: u32 = 2000;
+pub const VERSION: u32 = 3000;
 
 /// The archive's: the crate may use one of the same major number and no lower minor one.
 ///

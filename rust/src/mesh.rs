@@ -20,7 +20,7 @@
 //! # Ok::<(), Box<dyn std::error::Error>>(())
 //! ```
 //!
-//! **Masses take x and y alone**: this folded wall would weigh too little and an upright one nothing, with `Ok` and no word said. For masses test first that all z
+//! **Masses take x and y alone**: this folded wall would weigh too little and an upright one nothing, and no word need be said. For masses test first that all z
 //! are one value, as [the whole way](crate#from-a-mesh-file-to-masses) does.
 use crate::{ffi, Refusal};
 use std::fmt;

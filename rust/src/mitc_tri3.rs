@@ -1,7 +1,12 @@
 //! A plate triangle's energy, and the masses of a panel of plates. Both lie in the plane of x and y.
 //!
-//! **Masses do not see z.** Of a wall in space, a mesh file's for one, they take x and y: one that stands upright weighs 0 and a folded one too little, with `Ok` and
-//! no word said. So test that all z are one value before you take x and y ([the whole way](crate#from-a-mesh-file-to-masses)):
+//! **The corners of a triangle run counterclockwise**, x to the right and y up. Where they do not, the answer is [`Refusal::Turned`]: exchange two of the triangle's three
+//! names; of a wall that is drawn from behind, do so in every triangle. What decides is the area ((x1 - x0)(y2 - y0) - (x2 - x0)(y1 - y0)) times 0.5, each operation
+//! rounded: below 0, -infinity included, the triangle turns right and is refused; at a zero of either sign and at a NaN it turns neither way and is not refused for
+//! that. So of corners that are nearly in a line rounding decides.
+//!
+//! **Masses do not see z.** Of a wall in space, a mesh file's for one, they take x and y: one that stands upright weighs 0 and a folded one too little, and no word
+//! need be said. So test that all z are one value before you take x and y ([the whole way](crate#from-a-mesh-file-to-masses)):
 //!
 //! ```
 //! use del_fem::{mitc_tri3::mass_lumped_plate_bending, Material};
@@ -19,12 +24,12 @@
 //! ```
 use crate::{energy, ffi, Energy, Material, Refusal};
 
-/// The energy of a plate over the plane corners `p`, with its gradient and Hessian by `u`: at each corner the displacement in z and the rotations about x and y. Each
-/// value carries the area's sign, which turns where the corners run clockwise. The energy in shear is the original's, four times that of plain plate theory where the
-/// two edges at corner 0 are perpendicular (`../docs/DIFFERENCES.md`). Of the material it looks at thickness and stiffness.
+/// The energy of a plate over the plane corners `p`, with its gradient and Hessian by `u`: at each corner the displacement in z and the rotations about x and y. The
+/// corners have to run counterclockwise (see [the module](self)). The energy in shear is the original's, four times that of plain plate theory where the two edges at
+/// corner 0 are perpendicular (`../docs/DIFFERENCES.md`). Of the material it looks at thickness and stiffness.
 ///
-/// Refused are, in this order, a number that is not finite, a stiffness that no sheet can have, a divisor that is zero (a dot of the inverse), and an answer that is not
-/// finite.
+/// Refused are, in this order, a number that is not finite, a stiffness that no sheet can have, corners that turn right, a divisor that is zero (a dot of the inverse, as
+/// of a triangle without an area or a plate without thickness), and an answer that is not finite.
 ///
 /// ```
 /// use del_fem::{mitc_tri3::w_dw_ddw_plate_bending, Material, Refusal};
@@ -34,6 +39,10 @@ use crate::{energy, ffi, Energy, Material, Refusal};
 /// u[1][0] = 1.0; // corner 1 is lifted
 /// let (w, _dw, _ddw) = w_dw_ddw_plate_bending(&p, &u, Material::lame(1400.0, 2.0, 0.0, 1.0))?;
 /// assert_eq!(w, 2.0);
+///
+/// let clockwise = [p[0], p[2], p[1]];
+/// let turned = w_dw_ddw_plate_bending(&clockwise, &u, Material::STOCK_SHEET);
+/// assert_eq!(turned, Err(Refusal::Turned));
 ///
 /// let without = Material { thickness: 0.0, ..Material::STOCK_SHEET };
 /// assert_eq!(w_dw_ddw_plate_bending(&p, &u, without), Err(Refusal::ZeroDivisor));
@@ -65,10 +74,12 @@ pub fn w_dw_ddw_plate_bending(
 }
 
 /// The lumped masses of a panel into `vtx2mass`, three for each vertex: for its translation and its two rotations. `tri2vtx` names three vertices for each triangle,
-/// `vtx2xy` has x and y of each vertex: of a wall in space z has to be one value throughout, which is the caller's to test (see [the module](self)). A triangle whose
-/// corners run clockwise takes its mass away. Of the material it looks at density and thickness.
+/// `vtx2xy` has x and y of each vertex: of a wall in space z has to be one value throughout, which is the caller's to test (see [the module](self)). The corners of every
+/// triangle have to run counterclockwise; one without an area is taken and adds no mass. Of the material it looks at density and thickness, and a mass is below 0 only
+/// where one of these is.
 ///
-/// After [`Refusal::BadAnswer`] the buffer is +0 throughout; [`Refusal::BadLength`], [`Refusal::BadName`] and [`Refusal::BadInput`] leave it as it was.
+/// Refused are, in this order, a wrong length or limit, a name of no vertex, a number that is not finite, a triangle that turns right, wherever it stands, and an answer
+/// that is not finite. After the last, [`Refusal::BadAnswer`], the buffer is +0 throughout; the others leave it as it was.
 ///
 /// ```
 /// use del_fem::{mitc_tri3::mass_lumped_plate_bending, Material, Refusal};
@@ -79,8 +90,10 @@ pub fn w_dw_ddw_plate_bending(
 /// mass_lumped_plate_bending(&[0, 1, 2, 1, 3, 2], &vtx2xy, material, &mut vtx2mass)?;
 /// assert_eq!(vtx2mass, [12.0, 1.0, 1.0, 24.0, 2.0, 2.0, 24.0, 2.0, 2.0, 12.0, 1.0, 1.0]);
 ///
-/// mass_lumped_plate_bending(&[0, 2, 1], &vtx2xy, material, &mut vtx2mass)?; // clockwise
-/// assert_eq!(vtx2mass[..3], [-12.0, -1.0, -1.0]);
+/// // The second triangle runs clockwise; the buffer keeps the masses of before.
+/// let turned = mass_lumped_plate_bending(&[0, 1, 2, 1, 2, 3], &vtx2xy, material, &mut vtx2mass);
+/// assert_eq!(turned, Err(Refusal::Turned));
+/// assert_eq!(vtx2mass[..3], [12.0, 1.0, 1.0]);
 ///
 /// let sheet = Material::STOCK_SHEET;
 /// let four = mass_lumped_plate_bending(&[0, 1, 2, 1], &vtx2xy, sheet, &mut vtx2mass);

@@ -1,8 +1,8 @@
 use crate::ffi;
 use std::fmt;
 
-/// Why a routine gives no numbers. Where several reasons hold, the first in the order 1, 2, 3, 7, 4, 5 is given; of a skin's triangles the first that is refused gives
-/// its own.
+/// Why a routine gives no numbers. Where several reasons hold, the first in the order 1, 2, 3, 7, 6, 4, 5 is given; of a skin's triangles the first that is refused
+/// gives its own.
 ///
 /// ```
 /// use del_fem::{mitc_tri3, Material, Refusal};
@@ -25,6 +25,8 @@ pub enum Refusal {
     BadInput,
     /// 7: a stiffness is none that a sheet can have.
     BadStiffness,
+    /// 6: a triangle turns right: its corners run clockwise. Exchange two of its three names, or two of a plate's corners together with their displacements.
+    Turned,
     /// 4: a divisor is zero, of either sign.
     ZeroDivisor,
     /// 5: the finished answer has a NaN or an infinity in it.
@@ -43,6 +45,7 @@ impl Refusal {
             Self::BadName => 2,
             Self::BadInput => 3,
             Self::BadStiffness => 7,
+            Self::Turned => 6,
             Self::ZeroDivisor => 4,
             Self::BadAnswer => 5,
             Self::BadFile => 8,
@@ -58,6 +61,7 @@ impl Refusal {
             2 => Err(Self::BadName),
             3 => Err(Self::BadInput),
             7 => Err(Self::BadStiffness),
+            6 => Err(Self::Turned),
             4 => Err(Self::ZeroDivisor),
             5 => Err(Self::BadAnswer),
             8 => Err(Self::BadFile),
@@ -82,7 +86,7 @@ impl std::error::Error for Refusal {}
 mod tests {
     use super::Refusal;
 
-    const LISTED: [u32; 7] = [1, 2, 3, 7, 4, 5, 8];
+    const LISTED: [u32; 8] = [1, 2, 3, 7, 6, 4, 5, 8];
 
     #[test]
     fn every_number_but_0_is_a_refusal_that_says_it() {

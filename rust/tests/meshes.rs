@@ -1,5 +1,5 @@
 //! Mesh files through the safe crate: the stored ones against the table in meshes/README.md, each beginning of one, and the way from a file to masses, which are
-//! those of a flat wall.
+//! those of a flat wall whose triangles run counterclockwise.
 use del_fem::mesh::{self, Mesh, Refused};
 use del_fem::{mitc_tri3, Material, Refusal};
 use std::error::Error;
@@ -154,8 +154,8 @@ fn masses_in_plan((vtx2xyz, tri2vtx): &Wall) -> Result<Vec<f64>, Refusal> {
     Ok(vtx2mass)
 }
 
-/// Masses take x and y: a wall that stands upright weighs 0 there and a folded one too little, with `Ok`. So a wall is refused unless all its z are one value; a NaN
-/// equals nothing and fails.
+/// Masses take x and y: a wall that stands upright weighs 0 there and a folded one too little, and `Ok` may come with either. So a wall is refused unless all its z are
+/// one value; a NaN equals nothing and fails.
 fn masses(file: &[u8]) -> Result<Vec<f64>, Box<dyn Error>> {
     let wall = wall(file)?;
     if !wall.0.iter().all(|p| p[2] == wall.0[0][2]) {
@@ -164,13 +164,27 @@ fn masses(file: &[u8]) -> Result<Vec<f64>, Box<dyn Error>> {
     Ok(masses_in_plan(&wall)?)
 }
 
+/// Where a part of the file begins in it.
+fn place(part: &[u8], file: &[u8]) -> usize {
+    part.as_ptr() as usize - file.as_ptr() as usize
+}
+
 /// The file of the square with other points in it.
 fn square_at(points: [[f64; 3]; 4]) -> Vec<u8> {
     let mut file = load("two");
-    let place = mesh::points(&file).unwrap().as_ptr() as usize - file.as_ptr() as usize;
+    let place = place(mesh::points(&file).unwrap(), &file);
     let block = points.concat().into_iter().flat_map(f64::to_be_bytes);
     for (at, byte) in block.enumerate() {
         file[place + at] = byte;
+    }
+    file
+}
+
+/// The file with corners 1 and 2 of these triangles exchanged.
+fn exchanged(mut file: Vec<u8>, triangles: &[usize]) -> Vec<u8> {
+    let place = place(mesh::cells(&file).unwrap(), &file);
+    for triangle in triangles {
+        file[place + 16 * triangle..][8..16].rotate_left(4);
     }
     file
 }
@@ -198,6 +212,52 @@ fn only_a_flat_wall_gets_masses() {
     let folded = load("folded");
     assert!(plan(&folded).iter().all(|mass| *mass > 0.0));
     assert!(refused(&folded).contains("not flat"));
+}
+
+#[test]
+fn a_wall_with_a_turned_triangle_gets_none() {
+    let words = "refused (6): a triangle turns right: its corners run clockwise";
+    for triangles in [&[0][..], &[1], &[0, 1]] {
+        let file = exchanged(load("two"), triangles);
+        assert_eq!(masses(&file).expect_err("turned").to_string(), words);
+    }
+    let mirrored = [
+        SQUARE.map(|[x, y, z]| [-x, y, z]),
+        SQUARE.map(|[x, y, z]| [x, -y, z]),
+        SQUARE.map(|[x, y, z]| [y, x, z]),
+    ];
+    for behind in mirrored.map(square_at) {
+        assert_eq!(masses(&behind).expect_err("turned").to_string(), words);
+        let mended = exchanged(behind, &[0, 1]);
+        assert_eq!(masses(&mended).expect("two names exchanged"), MASSES);
+    }
+    let half_turn = square_at(SQUARE.map(|[x, y, z]| [-x, -y, z]));
+    assert_eq!(masses(&half_turn).expect("half a turn"), MASSES);
+    // Folded over at the diagonal: in plan one triangle lies on its back.
+    let over = square_at([SQUARE[0], SQUARE[1], SQUARE[2], [0.0, 0.0, 1.0]]);
+    assert_eq!(masses_in_plan(&wall(&over).unwrap()), Err(Refusal::Turned));
+    assert!(masses(&over)
+        .expect_err("z differ")
+        .to_string()
+        .contains("not flat"));
+}
+
+/// The stored walls are of triangles with the area 18 that run counterclockwise, but for two that are not flat.
+#[test]
+fn every_stored_flat_wall_gets_masses() {
+    for [name, answer, _] in table() {
+        let triangles = match numbers(&answer)[..] {
+            [0, _, triangles] => triangles,
+            _ => continue,
+        };
+        match masses(&load(&name)) {
+            Ok(vtx2mass) => {
+                let sum: f64 = vtx2mass.iter().step_by(3).sum();
+                assert_eq!(sum, 36.0 * triangles as f64, "{name}");
+            }
+            Err(_) => assert!(["folded", "any_double"].contains(&&*name), "{name}"),
+        }
+    }
 }
 
 #[test]
