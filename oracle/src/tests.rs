@@ -256,8 +256,9 @@ fn differences_of_the_plate() {
     let clockwise = [0.0, 0.0, 0.0, 1.0, 1.0, 0.0];
     assert_eq!(energy(square, [0.0, 1.0, 0.0]), 2.0);
     assert_eq!(energy(skewed, [0.0, 1.0, 1.0]), 4.0);
-    let singles = [2.0, 0.0, 1.0];
-    let turned = [&clockwise[..], &[0.0; 9], &singles].concat();
+    let lifted = [0.0, 0.0, 0.0, 0.0, 0.0, 0.0, 1.0, 0.0, 0.0];
+    let turned = [&clockwise[..], &lifted, &[2.0, 0.0, 1.0]].concat();
+    assert_eq!(kernels::values_and_divisors(PLATE, &turned).0[0], -2.0);
     assert_eq!(refusal(PLATE, &turned), 6);
     for (e, number) in [
         (-537, 4),

@@ -79,6 +79,8 @@ numbers = record {
     only = plate.unique binary64 p u m;
   };
   masses = λ tri2vtx vtx2xy m before is. masses.accepted-masses binary64 tri2vtx vtx2xy m before is;
+  unturned-plate = λ p u m is. plate.accepted-unturned binary64 p u m is;
+  unturned-panel = λ tri2vtx vtx2xy m before is. masses.accepted-unturned binary64 tri2vtx vtx2xy m before is;
   one-panel = masses.unique binary64;
   skin = λ vtx2ini vtx2def tri2vtx m before is. skin.accepted-sums binary64 _ _ _ tri2vtx before is;
   one-skin = skin.unique binary64;

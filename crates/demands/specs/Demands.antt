@@ -143,9 +143,13 @@ pub record Demand2 : Type 0 where
       EnergyGives (stvks.IsStvk binary64 p0 p1 m) (wdwddwOf binary64 (space.cornersOf p0) (space.cornersOf p1) (lame .lambda) (lame .myu))
   pub plate : (p u : List (List Float)) (m : Material) → let lame = lameOf binary64 (m .stiffness) in
       EnergyGives (plates.IsPlate binary64 p u m) (wDwDdwPlateBendingOf binary64 (plane.cornersOf p) (space.cornersOf u) (m .thickness) (lame .lambda) (lame .myu))
-  -- of a panel without right-turning triangles: one that has some is refused
   pub masses : (tri2vtx : List ℕ) (vtx2xy : List Float) (m : Material) (before : List Float) {r : ℕ} {after : List Float}
       → IsMasses binary64 tri2vtx vtx2xy m before r after → r ≡ accepted → after ≡ massesOf binary64 tri2vtx vtx2xy (m .thickness) (m .density) before
+  -- what is accepted has no right-turning triangle
+  pub unturned-plate : (p u : List (List Float)) (m : Material) {r : Energy} → plates.IsPlate binary64 p u m r → r .number ≡ accepted
+      → let q = plane.cornersOf p in signedAreaOf binary64 (q .p0) (q .p1) (q .p2) .turn ≡ Right → ⊥
+  pub unturned-panel : (tri2vtx : List ℕ) (vtx2xy : List Float) (m : Material) (before : List Float) {r : ℕ} {after : List Float}
+      → IsMasses binary64 tri2vtx vtx2xy m before r after → r ≡ accepted → SomeTurned binary64 tri2vtx vtx2xy → ⊥
   pub one-panel : (tri2vtx : List ℕ) (vtx2xy : List Float) (m : Material) (before : List Float) {r q : ℕ} {after left : List Float}
       → IsMasses binary64 tri2vtx vtx2xy m before r after → IsMasses binary64 tri2vtx vtx2xy m before q left → (r ≡ q) × (after ≡ left)
   pub skin : (vtx2ini vtx2def : List Float) (tri2vtx : List ℕ) (m : Material) (before : List Float) {r : Skin} {after : List Float}

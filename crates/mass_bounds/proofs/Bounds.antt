@@ -1,6 +1,6 @@
 -- Demand 3 of what `mass_lumped_plate_bending` leaves (01-scope 6.1 to 6.4): every place holds its vertex's sum of shares, and those sums are finite and near the exact masses.
-use mathlib.Core.Path.{_≡_, refl, sym, _∙_}
-use mathlib.Core.Bool.{Bool, true, false, true≢false}
+use mathlib.Core.Path.{_≡_, refl}
+use mathlib.Core.Bool.{Bool, true, false}
 use mathlib.Core.List.{List}
 use mathlib.Core.Logic.{_↔_}
 use Prim.Native.Nat.{ℕ, _+_, _*_, _/_, _%_, _≤_, _<_}
@@ -29,13 +29,13 @@ use Rattle.corners.specs.Plane.{pointFinite}
 use Rattle.masses.specs.Masses.{massesOf}
 use Rattle.masses.specs.Vertex.{trianglesOf, shareOf}
 use Rattle.masses.proofs.Vertex.{masses-sized, masses-hold}
-use Rattle.mitc_tri3.specs.Masses.{badInputOf, noneTurned, rowsOf, bufferOf, IsMasses}
-use Rattle.mitc_tri3.proofs.MassesAnswer.{some-turned, numbers-exactly, accepted-masses}
+use Rattle.mitc_tri3.specs.Masses.{badInputOf, SomeTurned, rowsOf, bufferOf, IsMasses}
+use Rattle.mitc_tri3.proofs.MassesAnswer.{some-turned, numbers-exactly, accepted-unturned, accepted-masses}
 use Rattle.mass_bounds.specs.Range.{largestCoordinate, largestFactor, wholeAt, inRange}
 use Rattle.mass_bounds.specs.Shares.{SomeNegative, exactShare, exactMass}
-use Rattle.mass_bounds.specs.Bounds.{NearExact, SumNear, Demand3}
+use Rattle.mass_bounds.specs.Bounds.{Proper, NearExact, SumNear, Demand3}
 use Rattle.mass_bounds.specs.Example.{names, firstNames, untouched, sharpPoints, sharpRho, sharpThick, sharpSheet, sharpBefore}
-use Rattle.mass_bounds.proofs.RuledOut.{meets, right-lengths, right-names, right-turns}
+use Rattle.mass_bounds.proofs.RuledOut.{meets, proper}
 use Rattle.mass_bounds.proofs.Sharp as sharp
 use Rattle.mass_bounds.proofs.Premises.{point, in-range}
 use Rattle.mass_bounds.proofs.Turned.{turned-negative, refused-6-exactly, own-shares}
@@ -57,12 +57,8 @@ module _ (f : Format) {B R N : ℕ} (m : Margins f B R N) (tri2vtx : List ℕ) (
   abbrev masses : List Float
   masses = massesOf f tri2vtx vtx2xy thick rho before
 
-  -- ---- the test of its turns
-  some-negative : noneTurned f tri2vtx vtx2xy ≡ false ↔ SomeNegative f tri2vtx vtx2xy
-  some-negative =
-      let (right, some) = some-turned f tri2vtx vtx2xy in
-      let (negative, turns) = turned-negative f B (m .wide) tri2vtx vtx2xy (in-range f B vtx2xy R tri2vtx thick rho range .2) in
-      ((λ e. negative (right e)), λ n. some (turns n))
+  some-negative : SomeTurned f tri2vtx vtx2xy ↔ SomeNegative f tri2vtx vtx2xy
+  some-negative = turned-negative f B (m .wide) tri2vtx vtx2xy (in-range f B vtx2xy R tri2vtx thick rho range .2)
 
   -- ---- its exact shares, where no triangle is negative: each is its own size, and a vertex's exact mass is the sum of its shares' sizes
   module _ (none : SomeNegative f tri2vtx vtx2xy → ⊥) where
@@ -110,11 +106,13 @@ module _ (f : Format) {B R N : ℕ} (m : Margins f B R N) (tri2vtx : List ℕ) (
 
   -- ---- THE theorem of demand 3, of a format with these margins: with the right lengths there are no more than N names
   module _ {r : ℕ} {after : List Float} (is : IsMasses f tri2vtx vtx2xy material before r after) (few : badLengthOf vertices (length tri2vtx) (length before) ≡ false → length tri2vtx ≤ N) where
-    accepts : badLengthOf vertices (length tri2vtx) (length before) ≡ false → namesBelow vertices tri2vtx ≡ true → (SomeNegative f tri2vtx vtx2xy → ⊥) → r ≡ accepted
-    accepts lengths below none =
+    accepts : Proper f tri2vtx vtx2xy before → r ≡ accepted
+    accepts proper =
+        let lengths = proper .lengths in
+        let below = proper .names in
         let (threes, size, _) = sized _ _ _ lengths in
         numbers-exactly f tri2vtx vtx2xy material before is .accepted-exactly .1
-        (lengths, (rw below, (inputs-good, (rw (decided _ (λ e. none (some-negative .0 e))), (rw (masses-finite threes size below (few lengths)), tt)))))
+        (lengths, (rw below, (inputs-good, (rw (decided _ (λ e. proper .turns (some-negative .0 (some-turned f tri2vtx vtx2xy .0 e)))), (rw (masses-finite threes size below (few lengths)), tt)))))
       where
         decided : (test : Bool) → (test ≡ false → ⊥) → test ≡ true
         decided true h = refl
@@ -128,7 +126,7 @@ module _ (f : Format) {B R N : ℕ} (m : Margins f B R N) (tri2vtx : List ℕ) (
       named = not-false _ (cleared .1 .0)
 
       none : SomeNegative f tri2vtx vtx2xy → ⊥
-      none n = true≢false (sym (not-false _ (cleared .1 .1 .1 .0)) ∙ some-negative .1 n)
+      none n = accepted-unturned f tri2vtx vtx2xy material before is e (some-negative .1 n)
 
       near : NearExact f tri2vtx vtx2xy thick rho after
       near =
@@ -142,6 +140,7 @@ module _ (f : Format) {B R N : ℕ} (m : Margins f B R N) (tri2vtx : List ℕ) (
     demand = record {
       accepts = accepts;
       own-sizes = λ e. own-sizes (none e);
+      sizes = λ e v k. own-mass (none e) v k .1;
       near = near;
       add-up = λ e. add-up f tri2vtx vtx2xy thick rho (named e);
       sum-near = summed;
@@ -163,7 +162,7 @@ pub turned-exactly : (tri2vtx : List ℕ) (vtx2xy : List Float) (material : Mate
 turned-exactly tri2vtx vtx2xy material before is whole = refused-6-exactly binary64 largestCoordinate (margins .wide) tri2vtx vtx2xy whole material before is
 
 pub met : let thick = example.thick in let rho = example.rho in NearExact binary64 names example.points thick rho (bufferOf binary64 names example.points thick rho untouched)
-met = let d = demand-3 names example.points example.sheet untouched (refl, refl) meets in d .near (d .accepts right-lengths right-names right-turns)
+met = let d = demand-3 names example.points example.sheet untouched (refl, refl) meets in d .near (d .accepts proper)
 
 pub met-sharp : NearExact binary64 firstNames sharpPoints sharpThick sharpRho (bufferOf binary64 firstNames sharpPoints sharpThick sharpRho sharpBefore)
-met-sharp = let d = demand-3 firstNames sharpPoints sharpSheet sharpBefore (refl, refl) sharp.meets in d .near (d .accepts sharp.right-lengths sharp.right-names sharp.right-turns)
+met-sharp = let d = demand-3 firstNames sharpPoints sharpSheet sharpBefore (refl, refl) sharp.meets in d .near (d .accepts sharp.proper)

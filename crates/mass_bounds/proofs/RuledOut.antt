@@ -1,15 +1,14 @@
 -- What 6.2 asks can be met, and `NearExact` is false of an untouched buffer, of zeros, of the first triangle's masses alone, and of any one buffer for two panels (01-scope 8.2): at one
 -- place of each, by computing.
 use mathlib.Core.Path.{_≡_, refl}
-use mathlib.Core.Bool.{true, false}
+use mathlib.Core.Bool.{true}
 use mathlib.Core.List.{List}
 use mathlib.Core.Logic.{inl, inr}
 use Prim.Native.Nat.{ℕ, _+_, _*_, _^_, _≤_, _<_}
 use lib.Dec.{lit<, le→leb, lt→ltb}
 use lib.Ieee.{Float, Format, binary64, prec, fits}
-use lib.ListN.{length}
 use Rattle.float.specs.Lists.{every, foldThrees, mapThrees}
-use Rattle.refusal.specs.Panel.{withinLimits, badLengthOf, namesBelow}
+use Rattle.refusal.specs.Panel.{withinLimits, badLengthOf}
 use Rattle.places.specs.Plane.{verticesOf, cornersAt, triangles}
 use Rattle.places.specs.Vertex.{namedBy, givenTo}
 use Rattle.rounding.specs.Exact.{_⊟_, mag, sign, sizeOf, value}
@@ -19,27 +18,21 @@ use Rattle.rounding.proofs.Error.{within-apart}
 use Rattle.mitc_tri3.specs.Example.{points, thick, rho}
 use Rattle.mass_bounds.specs.Range.{largestCoordinate, largestFactor, between, inRange}
 use Rattle.mass_bounds.specs.Shares.{namesOf, twiceArea, SomeNegative, weight, exactShare, exactMass}
-use Rattle.mass_bounds.specs.Bounds.{roundings, NearExact}
+use Rattle.mass_bounds.specs.Bounds.{roundings, Proper, NearExact}
 use Rattle.mass_bounds.specs.Example.{names, firstNames, untouched, allZero, firstOnly}
 
 pub meets : inRange binary64 largestCoordinate largestFactor names points thick rho ≡ true
 unfolding inRange between isWholeUpTo every fits mag sign
 meets = refl
 
-pub right-lengths : badLengthOf (verticesOf points) (length names) (length untouched) ≡ false
-unfolding badLengthOf withinLimits
-right-lengths = refl
-
-pub right-names : namesBelow (verticesOf points) names ≡ true
-unfolding every
-right-names = refl
-
--- both triangles turn left
-pub right-turns : SomeNegative binary64 names points → ⊥
-unfolding value twiceArea triangles mapThrees cornersAt
-right-turns (inl h) = lt→ltb _ _ h
-right-turns (inr (inl h)) = lt→ltb _ _ h
-right-turns (inr (inr n)) = n
+pub proper : Proper binary64 names points untouched
+unfolding badLengthOf withinLimits every value twiceArea triangles mapThrees cornersAt
+proper = record { lengths = refl; names = refl; turns = turns }
+  where
+    turns : SomeNegative binary64 names points → ⊥
+    turns (inl h) = lt→ltb _ _ h
+    turns (inr (inl h)) = lt→ltb _ _ h
+    turns (inr (inr n)) = n
 
 pub not-untouched : NearExact binary64 names points thick rho untouched → ⊥
 unfolding value sumOf twiceArea weight exactShare givenTo namedBy cornersAt foldThrees

@@ -1,15 +1,14 @@
 -- 6.2's bounds are not idle: on one panel each mass is more than (d + 1) / 2 ^ 53 off, and within d + 3 and d + 6, by computing.
 use mathlib.Core.Path.{_≡_, refl}
-use mathlib.Core.Bool.{true, false}
+use mathlib.Core.Bool.{true}
 use mathlib.Core.List.{List}
 use mathlib.Core.Logic.{inl, inr}
 use Prim.Native.Nat.{ℕ, _+_, _^_}
 use lib.Dec.{lit≤, le→leb, lt→ltb}
 use lib.Ieee.{Float, binary64, fits, sub, mul, div, ofBits}
-use lib.ListN.{length}
 use Rattle.float.specs.Lists.{_!_, every, foldThrees, mapThrees}
-use Rattle.refusal.specs.Panel.{withinLimits, badLengthOf, namesBelow}
-use Rattle.places.specs.Plane.{verticesOf, cornersAt, triangles}
+use Rattle.refusal.specs.Panel.{withinLimits, badLengthOf}
+use Rattle.places.specs.Plane.{cornersAt, triangles}
 use Rattle.places.specs.Places.{addVertex, addTriangle}
 use Rattle.places.specs.Vertex.{namedBy, givenTo}
 use Rattle.rounding.specs.Exact.{sizeOf, mag, sign, value}
@@ -19,7 +18,7 @@ use Rattle.rounding.specs.Whole.{isWholeUpTo}
 use Rattle.masses.specs.Masses.{massOf, addMasses, addAll, massesOf}
 use Rattle.mass_bounds.specs.Range.{largestCoordinate, largestFactor, between, inRange}
 use Rattle.mass_bounds.specs.Shares.{namesOf, twiceArea, weight, exactShare, over, exactMass, SomeNegative}
-use Rattle.mass_bounds.specs.Bounds.{roundings}
+use Rattle.mass_bounds.specs.Bounds.{roundings, Proper}
 use Rattle.mass_bounds.specs.Example.{firstNames, sharpPoints, sharpRho, sharpThick, sharpBefore}
 
 abbrev stored : List Float
@@ -35,18 +34,13 @@ pub meets : inRange binary64 largestCoordinate largestFactor firstNames sharpPoi
 unfolding inRange between isWholeUpTo every fits mag sign ofBits
 meets = refl
 
-pub right-lengths : badLengthOf (verticesOf sharpPoints) (length firstNames) (length sharpBefore) ≡ false
-unfolding badLengthOf withinLimits
-right-lengths = refl
-
-pub right-names : namesBelow (verticesOf sharpPoints) firstNames ≡ true
-unfolding every
-right-names = refl
-
-pub right-turns : SomeNegative binary64 firstNames sharpPoints → ⊥
-unfolding value twiceArea triangles mapThrees cornersAt
-right-turns (inl h) = lt→ltb _ _ h
-right-turns (inr n) = n
+pub proper : Proper binary64 firstNames sharpPoints sharpBefore
+unfolding badLengthOf withinLimits every value twiceArea triangles mapThrees cornersAt
+proper = record { lengths = refl; names = refl; turns = turns }
+  where
+    turns : SomeNegative binary64 firstNames sharpPoints → ⊥
+    turns (inl h) = lt→ltb _ _ h
+    turns (inr n) = n
 
 pub held : OffBy 0 (roundings 0) × OffBy 1 (roundings 1)
 unfolding value sumOf twiceArea weight exactShare givenTo namedBy cornersAt foldThrees sub mul div ofBits massOf addMasses addAll massesOf addVertex addTriangle

@@ -10,15 +10,22 @@ use Rattle.refusal.specs.Refusal.{accepted}
 use Rattle.refusal.specs.Panel.{badLengthOf, namesBelow}
 use Rattle.rounding.specs.Exact.{Equal, _⊠_, scale, sizeOf, OwnSize, value}
 use Rattle.rounding.specs.Error.{Within}
-use Rattle.rounding.specs.Sums.{exactSum, exactSumTo, greatest}
+use Rattle.rounding.specs.Sums.{sumOf, exactSum, exactSumTo, greatest}
 use Rattle.rounding.specs.Whole.{unit, isNumber}
 use Rattle.places.specs.Plane.{verticesOf, triangles}
+use Rattle.masses.specs.Vertex.{trianglesOf}
 use Rattle.mass_bounds.specs.Shares.{namesOf, twiceArea, SomeNegative, weight, exactShare, over, exactMass}
 
 -- the 3 of d + 3 for the translation, the 6 of d + 6 for the rotations
 abbrev pub roundings : (k : ℕ) → ℕ
 roundings zero = 3
 roundings (suc k) = 6
+
+-- right lengths and names, and no triangle whose exact area is negative
+pub record Proper (f : Format) (tri2vtx : List ℕ) (vtx2xy before : List Float) : Type 0 where
+  pub lengths : badLengthOf (verticesOf vtx2xy) (length tri2vtx) (length before) ≡ false
+  pub names : namesBelow (verticesOf vtx2xy) tri2vtx ≡ true
+  pub turns : SomeNegative f tri2vtx vtx2xy → ⊥
 
 module _ (f : Format) (tri2vtx : List ℕ) (vtx2xy : List Float) (thick rho : Float) where
   -- of ANY buffer: three numbers for each vertex, at each place |stored - exact| * 2 ^ prec <= (d + 3) * |exact|, or (d + 6) * |exact|
@@ -44,11 +51,10 @@ module _ (f : Format) (tri2vtx : List ℕ) (vtx2xy : List Float) (thick rho : Fl
 
   -- Demand 3, of a panel in range for which r was given and whose buffer was `before` and is `after`
   pub record Demand3 (before : List Float) (r : ℕ) (after : List Float) : Type 0 where
-    -- with the right lengths and names, and no triangle whose exact area is negative, it is accepted
-    pub accepts : badLengthOf (verticesOf vtx2xy) (length tri2vtx) (length before) ≡ false → namesBelow (verticesOf vtx2xy) tri2vtx ≡ true → (SomeNegative f tri2vtx vtx2xy → ⊥)
-        → r ≡ accepted
-    -- and where it is, each exact share is its own size: sums of shares and of their sizes are one
+    pub accepts : Proper f tri2vtx vtx2xy before → r ≡ accepted
+    -- where it is accepted, each exact share is its own size, so that the sum of the sizes of a vertex's shares is its exact mass
     pub own-sizes : r ≡ accepted → (k : ℕ) → All (λ p. OwnSize (exactShare f k thick rho p)) (triangles tri2vtx vtx2xy)
+    pub sizes : r ≡ accepted → (v k : ℕ) → sumOf (λ p. sizeOf (exactShare f k thick rho p)) (trianglesOf v tri2vtx vtx2xy) ≡ sizeOf (exactMass f tri2vtx vtx2xy thick rho k v)
     pub near : r ≡ accepted → NearExact after
     pub add-up : r ≡ accepted → AddUp
     pub sum-near : r ≡ accepted → SumNear after

@@ -1,7 +1,7 @@
 -- What `w_dw_ddw_plate_bending` answers, in the scope's words: one answer fits; what every kernel that answers an energy says; of the material the density does not count; and Young's modulus with
 -- Poisson's ratio is the Lamé pair that is computed of them.
-use mathlib.Core.Path.{_≡_, _∙_}
-use mathlib.Core.Bool.{true, false, _&&_}
+use mathlib.Core.Path.{_≡_, sym, _∙_}
+use mathlib.Core.Bool.{true, false, true≢false, _&&_}
 use mathlib.Core.List.{List}
 use mathlib.Core.Logic.{_↔_}
 use lib.Ieee.{Float, Format}
@@ -51,6 +51,11 @@ module _ (f : Format) (p u : List (List Float)) where
           let (there, back) = six-exactly tests in
           let (is-right, right) = is-right-exactly (signedAreaOf f (plane.cornersOf p .p0) (plane.cornersOf p .p1) (plane.cornersOf p .p2) .turn) in
           ((λ e. let (i, (s, t)) = there (rw is at e) in (i, s, is-right t)), λ (i, s, t). rw is (back (i, (s, right t))))
+
+      -- and an accepted triangle's does not
+      pub accepted-unturned : r .number ≡ accepted → let q = plane.cornersOf p in signedAreaOf f (q .p0) (q .p1) (q .p2) .turn ≡ Right → ⊥
+      unfolding testsOf testedOf
+      accepted-unturned e h = true≢false (sym (is-right-exactly _ .1 h) ∙ numbers-exactly .accepted-exactly .0 e .1 .1 .0)
 
       -- after a refusal every value is +0
       pub refused-values : (r .number ≡ accepted → ⊥) → (r .w ≡ zero) × (r .dw ≡ replicate 9 zero) × (r .ddw ≡ replicate 81 zero)

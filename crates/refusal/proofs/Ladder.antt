@@ -28,6 +28,18 @@ module _ (n : ℕ) (some : n ≡ accepted → ⊥) where
   pub given-exactly : (rows : List Row) → firstOf rows ≡ n ↔ Cause n rows
   given-exactly rows = (there rows, back rows)
 
+-- ---- a number that stands on no row is never given
+abbrev pub nowhere : (n : ℕ) → List Row → Bool
+nowhere n rows = every (λ row. not (eqb (row .1) n)) rows
+
+no-cause : (n : ℕ) (rows : List Row) → nowhere n rows ≡ true → Cause n rows → ⊥
+unfolding every
+no-cause n ((test, k) ∷ rows) o (inl (_, e)) = eqb-false k n (not-true _ (both (not (eqb k n)) _ o .0)) e
+no-cause n ((test, k) ∷ rows) o (inr (_, c)) = no-cause n rows (both (not (eqb k n)) _ o .1) c
+
+pub never-given : (n : ℕ) → (n ≡ accepted → ⊥) → (rows : List Row) → nowhere n rows ≡ true → firstOf rows ≡ n → ⊥
+never-given n some rows o e = no-cause n rows o (given-exactly n some rows .0 e)
+
 -- ---- a number that stands on one row alone is given exactly where the tests before that row do not hold and its own does
 abbrev pick : Bool → Type 0 → Type 0 → Type 0
 pick true A B = A
@@ -37,26 +49,18 @@ abbrev pub Alone : (n : ℕ) → List Row → Type 0
 Alone n [] = ⊥
 Alone n ((test, k) ∷ rows) = pick (eqb k n) (test ≡ true) ((test ≡ false) × Alone n rows)
 
-abbrev nowhere : (n : ℕ) → List Row → Bool
-nowhere n rows = every (λ row. not (eqb (row .1) n)) rows
-
 abbrev pub once : (n : ℕ) → List Row → Bool
 once n [] = true
 once n ((test, k) ∷ rows) = cond (eqb k n) (nowhere n rows) (once n rows)
 
 module _ (n : ℕ) where
-  no-cause : (rows : List Row) → nowhere n rows ≡ true → Cause n rows → ⊥
-  unfolding every
-  no-cause ((test, k) ∷ rows) o (inl (_, e)) = eqb-false k n (not-true _ (both (not (eqb k n)) _ o .0)) e
-  no-cause ((test, k) ∷ rows) o (inr (_, c)) = no-cause rows (both (not (eqb k n)) _ o .1) c
-
   alone-there : (rows : List Row) → once n rows ≡ true → Cause n rows → Alone n rows
   alone-there ((test, k) ∷ rows) o c = go (eqb k n) refl o c (alone-there rows)
     where
       go : (b : Bool) → eqb k n ≡ b → cond b (nowhere n rows) (once n rows) ≡ true → Cause n (test ⇒ k ∷ rows) → (once n rows ≡ true → Cause n rows → Alone n rows)
           → pick b (test ≡ true) ((test ≡ false) × Alone n rows)
       go true e o (inl (t, _)) rest = t
-      go true e o (inr (_, c)) rest = absurd (no-cause rows o c)
+      go true e o (inr (_, c)) rest = absurd (no-cause n rows o c)
       go false e o (inl (_, z)) rest = absurd (eqb-false k n e z)
       go false e o (inr (t, c)) rest = (t, rest o c)
 
@@ -72,7 +76,7 @@ module _ (n : ℕ) where
 
 -- 0 is the number of none of these rows
 abbrev pub Refusing : List Row → Type 0
-Refusing rows = every (λ row. not (eqb (row .1) accepted)) rows ≡ true
+Refusing rows = nowhere accepted rows ≡ true
 
 clear-there : (rows : List Row) → Refusing rows → firstOf rows ≡ accepted → Clear rows
 unfolding firstOf every

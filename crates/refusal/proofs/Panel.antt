@@ -27,14 +27,14 @@ sized vertices names places e =
 pub named : (count : ℕ) (names : List ℕ) → namesBelow count names ≡ true → (k : ℕ) → k < length names → getD names k 0 < count
 named count names e k h = ltb-true _ _ (every-at (λ name. ltb name count) names k 0 e h)
 
--- at a turn of a loop that takes three names: the last of them is in the list, and each is a vertex's
-pub record Turn (count : ℕ) (names : List ℕ) (i : ℕ) : Type 0 where
+-- where a loop takes three names: the last of them is in the list, and each is a vertex's
+pub record Three (count : ℕ) (names : List ℕ) (i : ℕ) : Type 0 where
   pub inside : i + 2 < length names
   pub first : getD names i 0 < count
   pub second : getD names (i + 1) 0 < count
   pub third : getD names (i + 2) 0 < count
 
-pub at-turn : (count : ℕ) (names : List ℕ) → length names % 3 ≡ 0 → namesBelow count names ≡ true → (i : ℕ) → i % 3 ≡ 0 → i < length names → Turn count names i
-at-turn count names threes below i third less =
+pub at-three : (count : ℕ) (names : List ℕ) → length names % 3 ≡ 0 → namesBelow count names ≡ true → (i : ℕ) → i % 3 ≡ 0 → i < length names → Three count names i
+at-three count names threes below i third less =
     let h : i + 2 < length names = omega arith in
     record { inside = h; first = named _ _ below i less; second = named _ _ below (i + 1) (omega arith); third = named _ _ below (i + 2) h }

@@ -20,7 +20,7 @@ use Rattle.refusal.specs.declared.Energy.{Energy}
 use Rattle.refusal.proofs.Ladder.{clear-exactly, first-above}
 use Rattle.refusal.proofs.Listed.{Passed, all-passed, threes-here, threes-passed, threes-above}
 use Rattle.refusal.proofs.ListedNumber.{later-above}
-use Rattle.refusal.proofs.Panel.{Turn, at-turn}
+use Rattle.refusal.proofs.Panel.{Three, at-three}
 use Rattle.places.specs.Places.{addedOf}
 use Rattle.places.specs.Space.{pointAt}
 use Rattle.places.proofs.Places.{added, triangle-length}
@@ -47,11 +47,11 @@ module _ (f : Format) (answer : Kernel) (tri2vtx : List ℕ) (from : List Float)
 
 -- lengths and names are right, and three names begin at i
 module _ (ini def : ℕ) (tri2vtx : List ℕ) (places : ℕ) (clear : Clear (earlyOf ini def tri2vtx places)) (i : ℕ) (whole : i % 3 ≡ 0) (less : i < length tri2vtx) where
-  turn : Turn (ini / 3) tri2vtx i
-  turn = at-turn (ini / 3) tri2vtx (sized ini def _ _ (clear .0) .0) (not-false _ (clear .1 .0)) i whole less
+  three : Three (ini / 3) tri2vtx i
+  three = at-three (ini / 3) tri2vtx (sized ini def _ _ (clear .0) .0) (not-false _ (clear .1 .0)) i whole less
 
   pub asked : (def ≡ ini) × ((getD tri2vtx i 0 * 3 + 2 < ini) × ((getD tri2vtx (i + 1) 0 * 3 + 2 < ini) × (getD tri2vtx (i + 2) 0 * 3 + 2 < ini)))
-  asked = let known = sized ini def _ _ (clear .0) in (omega arith, (omega (arith, turn), (omega (arith, turn), omega (arith, turn))))
+  asked = let known = sized ini def _ _ (clear .0) in (omega arith, (omega (arith, three), (omega (arith, three), omega (arith, three))))
 
 module _ (f : Format) (answer : Kernel) (ini def : ℕ) (tri2vtx : List ℕ) (before : List Float) where
   open Ops (ops f) using (_⊕_)
@@ -100,7 +100,7 @@ module _ (f : Format) (answer : Kernel) (ini def : ℕ) (tri2vtx : List ℕ) (be
           → after ≡ addedOf f vtx2dw (name i) (name (i + 1)) (name (i + 2)) (pointAt (e .dw) 0) (pointAt (e .dw) 1) (pointAt (e .dw) 2) → Left f answer tri2vtx from (i + 3) (w ⊕ e .w) after
       unfolding addEnergy addGradient
       next less is z d =
-          let t = turn ini def tri2vtx _ clear i (left .whole) less in
+          let t = three ini def tri2vtx _ clear i (left .whole) less in
           rw (d, added f vtx2dw _ _ _ _ _ _ (ini / 3) (size ∙ sized ini def _ _ (clear .0) .1) (t .first) (t .second) (t .third), is) record {
             threes = left .threes;
             whole = omega (arith, left .whole);

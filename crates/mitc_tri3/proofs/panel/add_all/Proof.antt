@@ -5,7 +5,7 @@ use native.Mathlib.Omega.{arith}
 use lib.Ieee.{binary64}
 use lib.ListN.{length, drop}
 use Rattle.float.proofs.Fold.{threes-done, threes-step}
-use Rattle.refusal.proofs.Panel.{at-turn}
+use Rattle.refusal.proofs.Panel.{at-three}
 use Rattle.masses.specs.Masses.{addAll}
 use Rattle.mitc_tri3.proofs.panel.add_all.Statement.{statement}
 use Rattle.mitc_tri3.proofs.panel.add_all.Tie as tie
@@ -26,14 +26,14 @@ add-all-spec = tie.close (tie.spec
     (λ c. omega arith)
     (λ c κs. let l = c .before .before .before .before .before in
     let s = l .before .before .before .before in
-    let turn = at-turn _ _ (s .pre .0) (s .pre .1 .0) (l .loop .i) (l .loop .inv .1) (omega arith) in
-    (l .loop .inv .0 ∙ s .pre .1 .1, (turn .first, (turn .second, turn .third))))
+    let three = at-three _ _ (s .pre .0) (s .pre .1 .0) (l .loop .i) (l .loop .inv .1) (omega arith) in
+    (l .loop .inv .0 ∙ s .pre .1 .1, (three .first, (three .second, three .third))))
     (λ c. omega arith)
     (λ c. omega arith)
     (λ c. let add = c .before .before in
     let l = add .before .before .before .before .before .before in
     let s = l .before .before .before .before in
-    let turn = at-turn _ _ (s .pre .0) (s .pre .1 .0) (l .loop .i) (l .loop .inv .1) (omega arith) in
-    (omega arith, omega arith, rw (add .add-masses .ensures) (threes-step _ _ (l .loop .i) 0 (l .loop .vtx2mass) (turn .inside)) ∙ l .loop .inv .2))
+    let three = at-three _ _ (s .pre .0) (s .pre .1 .0) (l .loop .i) (l .loop .inv .1) (omega arith) in
+    (omega arith, omega arith, rw (add .add-masses .ensures) (threes-step _ _ (l .loop .i) 0 (l .loop .vtx2mass) (three .inside)) ∙ l .loop .inv .2))
     (λ c. c .before .loop .inv .0)
     (λ c. let l = c .before in sym (threes-done _ _ (l .loop .i) (l .loop .vtx2mass) (omega arith)) ∙ l .loop .inv .2))

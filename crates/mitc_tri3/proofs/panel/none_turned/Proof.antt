@@ -7,7 +7,7 @@ use native.Mathlib.Omega.{arith}
 use lib.Ieee.{Float, binary64}
 use lib.ListN.{length, drop, getD}
 use Rattle.float.proofs.Fold.{every-threes-done, every-threes-step}
-use Rattle.refusal.proofs.Panel.{at-turn}
+use Rattle.refusal.proofs.Panel.{at-three}
 use Rattle.del_geo_core.specs.Tri2.{turnsRight}
 use Rattle.places.specs.Plane.{cornersAt, triangles}
 use Rattle.mitc_tri3.specs.Masses.{noneTurned}
@@ -36,17 +36,17 @@ none-turned-spec = tie.close (tie.spec
     (λ c. omega arith)
     (λ c κs. let l = c .before .before .before .before in
     let s = l .before .before .before in
-    let turn = at-turn _ _ (s .pre .0) (s .pre .1) (l .loop .first) (l .loop .inv .0) (omega arith) in
-    (omega (arith, turn .first), (omega (arith, turn .second), omega (arith, turn .third))))
+    let three = at-three _ _ (s .pre .0) (s .pre .1) (l .loop .first) (l .loop .inv .0) (omega arith) in
+    (omega (arith, three .first), (omega (arith, three .second), omega (arith, three .third))))
     (λ c κs. tt)
     (λ c. let test = c .before in let l = test .before .before .before .before .before .before in
     let s = l .before .before .before in
-    let turn = at-turn _ _ (s .pre .0) (s .pre .1) (l .loop .first) (l .loop .inv .0) (omega arith) in
-    rw (← l .loop .inv .1, next _ _ (l .loop .first) (turn .inside), ← test .before .corners-at .ensures, ← test .turns-right .ensures, c .if1 .taken))
+    let three = at-three _ _ (s .pre .0) (s .pre .1) (l .loop .first) (l .loop .inv .0) (omega arith) in
+    rw (← l .loop .inv .1, next _ _ (l .loop .first) (three .inside), ← test .before .corners-at .ensures, ← test .turns-right .ensures, c .if1 .taken))
     (λ c. omega arith)
     (λ c. omega arith)
     (λ c. let test = c .before in let l = test .before .before .before .before .before .before in
     let s = l .before .before .before in
-    let turn = at-turn _ _ (s .pre .0) (s .pre .1) (l .loop .first) (l .loop .inv .0) (omega arith) in
-    (omega arith, sym (next _ _ (l .loop .first) (turn .inside) ∙ rw (← test .before .corners-at .ensures, ← test .turns-right .ensures, c .if1 .left)) ∙ l .loop .inv .1))
+    let three = at-three _ _ (s .pre .0) (s .pre .1) (l .loop .first) (l .loop .inv .0) (omega arith) in
+    (omega arith, sym (next _ _ (l .loop .first) (three .inside) ∙ rw (← test .before .corners-at .ensures, ← test .turns-right .ensures, c .if1 .left)) ∙ l .loop .inv .1))
     (λ c. let l = c .before in sym (every-threes-done _ _ _ (l .loop .first) (omega arith)) ∙ l .loop .inv .1))
