@@ -14,7 +14,7 @@ use lib.Ieee.Digits.{size-lt, size-le, size_reaches}
 use lib.Ieee.Exact.{odd_sign}
 use lib.Ieee.Fits.{two, down_pos, odd-fits}
 use Rattle.float.specs.Numbers.{nan_word}
-use Rattle.float.proofs.Bits.{nan_bits}
+use Rattle.float.proofs.Bits.{nan_bits_lem}
 use Rattle.float.proofs.Value.{Written, written, place}
 use Rattle.whole_root.specs.Whole.{nearest_root}
 use Rattle.whole_root.proofs.Whole.{nearest_root_is}
@@ -109,4 +109,4 @@ answered_word f w r x y h i a o = record { rule = rw (o, of_bits-to_bits f y h, 
 -- where the rule's answer is the NaN, the word is that of the one NaN
 pub nan_word_lem : (f : Format) (w : ℕ) → IsRoot f (of_bits f w) nan → root_word_of f w ≡ nan_word f
 unfolding root_word_of
-nan_word_lem f w a = rw (← is_root_of f (of_bits f w) nan (of_bits-fits f w) a) (nan_bits f)
+nan_word_lem f w a = rw (← is_root_of f (of_bits f w) nan (of_bits-fits f w) a) (nan_bits_lem f)

@@ -28,7 +28,7 @@ all_finite_spec = tie.close (tie.spec
     (λ c. omega arith)
     (λ c. omega arith)
     (λ c. let l = c.before.before.before.before.before in
-    (omega arith, omega arith, omega arith, four_more binary64 l.before.before.args.xs.now _ _ _ _ _ (omega arith) l.loop.invariant.3))
+    (omega arith, omega arith, omega arith, four_more binary64 l.before.before.args.xs.now _ _ _ _ _ (omega arith) l.loop-i.invariant.3))
     (λ c κs. tt)
     (λ c. omega arith)
     (λ c. omega arith)
@@ -36,7 +36,7 @@ all_finite_spec = tie.close (tie.spec
     (λ c. omega arith)
     (λ c κs. tt)
     (λ c. let i = c.before.before in
-    let l = i.before.before.before.loop in
-    c.each_finite.ensures ∙ summed binary64 _ l.i _ _ _ _ l.invariant.3 (sym i.before.is_finite.ensures ∙ i.if1.true))
+    let l = i.before.before.before.loop-i in
+    c.each_finite.ensures ∙ summed binary64 _ l.i _ _ _ _ l.invariant.3 (sym i.before.is_finite.ensures ∙ i.if-is_finite.true))
     (λ c κs. tt)
-    (λ c. c.each_finite2.ensures))
+    (λ c. c.each_finite-2.ensures))
