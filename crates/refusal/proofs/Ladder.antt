@@ -19,6 +19,7 @@ module _ (n : ℕ) (some : n ≡ accepted → ⊥) where
 
   back : (rows : List Row) → Cause n rows → first_of rows ≡ n
   unfolding first_of
+  back [] c = elim c [ ]
   back ((true, k) ∷ rows) (inl (_, e)) = e
   back ((true, k) ∷ rows) (inr (e, _)) = absurd (true≢false e)
   back ((false, k) ∷ rows) (inl (e, _)) = absurd (false≢true e)
@@ -34,6 +35,7 @@ nowhere n rows = every (λ row. not (eqb row.1 n)) rows
 
 no_cause : (n : ℕ) (rows : List Row) → nowhere n rows ≡ true → Cause n rows → ⊥
 unfolding every
+no_cause n [] o c = elim c [ ]
 no_cause n ((test, k) ∷ rows) o (inl (_, e)) = eqb-false k n (not-true _ (both (not (eqb k n)) _ o).0) e
 no_cause n ((test, k) ∷ rows) o (inr (_, c)) = no_cause n rows (both (not (eqb k n)) _ o).1 c
 
@@ -55,6 +57,7 @@ once n ((test, k) ∷ rows) = cond (eqb k n) (nowhere n rows) (once n rows)
 
 module _ (n : ℕ) where
   alone_there : (rows : List Row) → once n rows ≡ true → Cause n rows → Alone n rows
+  alone_there [] o c = elim c [ ]
   alone_there ((test, k) ∷ rows) o c = go (eqb k n) refl o c (alone_there rows)
     where
       go : (b : Bool) → eqb k n ≡ b → cond b (nowhere n rows) (once n rows) ≡ true → Cause n (test ⇒ k ∷ rows) → (once n rows ≡ true → Cause n rows → Alone n rows)
@@ -65,6 +68,7 @@ module _ (n : ℕ) where
       go false e o (inr (t, c)) rest = (t, rest o c)
 
   alone_back : (rows : List Row) → Alone n rows → Cause n rows
+  alone_back [] a = elim a [ ]
   alone_back ((test, k) ∷ rows) a = go (eqb k n) refl a (alone_back rows)
     where
       go : (b : Bool) → eqb k n ≡ b → pick b (test ≡ true) ((test ≡ false) × Alone n rows) → (Alone n rows → Cause n rows) → Cause n (test ⇒ k ∷ rows)

@@ -12,4 +12,4 @@ kernel_spec = tie.close (tie.spec
     (λ c κs. tt)
     (λ c κs. tt)
     (λ c. let c4 = c.before in let c3 = c4.before in let c2 = c3.before in
-    rw (c.first5.ensures, c4.first4.ensures, c3.first3.ensures, c2.first2.ensures, c2.before.first.ensures)))
+    rw (c.first.ensures, c4.first-stiffness.ensures, c3.first-turned.ensures, c2.first-divisor.ensures, c2.before.first-answer.ensures)))

@@ -15,15 +15,15 @@ names_below_spec = tie.close (tie.spec
     (λ names count ok₀ i₀ i-end ok i. (i ≤ i-end) × (i-end ≡ length names) × ((ok && names_below count (drop i names)) ≡ names_below count names))
     (λ names count ok₀ i₀ i-end ok i. i-end - i)
     (λ c. (omega arith, refl, refl))
-    (λ c. omega (arith, c.before.before.well-formed))
+    (λ c. omega (arith, c.before.before.well_formed))
     (λ c. omega arith)
     (λ c. omega arith)
     (λ c. omega arith)
     (λ c. let l = c.before.before in
     let a = l.before.args in
-    let h : l.loop.i < length a.names.now = omega arith in
-    (omega arith, refl, every_step (λ name. ltb name a.count) a.names.now l.loop.i 0 l.loop.ok _ h refl ∙ l.loop.invariant.2))
+    let h : l.loop-i.i < length a.names.now = omega arith in
+    (omega arith, refl, every_step (λ name. ltb name a.count) a.names.now l.loop-i.i 0 l.loop-i.ok _ h refl ∙ l.loop-i.invariant.2))
     (λ c. let l = c.before in
     let a = l.before.args in
-    let h : length a.names.now ≤ l.loop.i = omega arith in
-    every_end (λ name. ltb name a.count) a.names.now l.loop.i l.loop.ok _ h l.loop.invariant.2))
+    let h : length a.names.now ≤ l.loop-i.i = omega arith in
+    every_end (λ name. ltb name a.count) a.names.now l.loop-i.i l.loop-i.ok _ h l.loop-i.invariant.2))

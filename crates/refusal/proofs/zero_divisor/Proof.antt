@@ -9,4 +9,4 @@ zero_divisor_spec = tie.close (tie.spec
     (λ c κs. tt)
     (λ c κs. tt)
     (λ c κs. tt)
-    (λ c. rw (c.is_zero3.ensures, c.before.is_zero2.ensures, c.before.before.is_zero.ensures)))
+    (λ c. rw (c.is_zero-3.ensures, c.before.is_zero-2.ensures, c.before.before.is_zero.ensures)))

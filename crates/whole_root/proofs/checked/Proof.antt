@@ -29,7 +29,7 @@ module _ (c : tie.Then3) where
   left_over =
       let c₂ = c.before.before in
       let c₁ = c₂.before.before in
-      shown start.pre.2 start.pre.3 start.args.a _ _ _ c₁.before.wrapping_sub_u64.ensures (omega arith)
+      shown start.pre.2 start.pre.3 start.args.a _ _ _ c₁.before.wrapping_sub_u64-d.ensures (omega arith)
       c₂.before.wrapping-sub-u642.ensures (omega arith) c.before.wrapping-sub-u643.ensures (omega arith)
 
 pub checked_spec : {M : Type 1} → statement M
@@ -48,8 +48,8 @@ checked_spec = tie.close (tie.spec
     (λ c κs. search rules)
     (λ c. search rules)
     (λ c. search rules)
-    (λ c κs. (root_pos (2 ^ 52) _ _ _ (omega arith) (left_over c) (omega arith), omega arith, c.if3.true))
+    (λ c κs. (root_pos (2 ^ 52) _ _ _ (omega arith) (left_over c) (omega arith), omega arith, c.if-r-s.true))
     (λ c. rw (left_over c.before) at c.nearest.ensures)
     (λ c κs. search rules)
-    (λ c κs. let d = c.digits.ensures in (d.some, omega arith, omega arith))
-    (λ c. rw c.before.digits.ensures.sum at c.nearest2.ensures))
+    (λ c κs. let d = c.digits-rooted.ensures in (d.some, omega arith, omega arith))
+    (λ c. rw c.before.digits-rooted.ensures.sum at c.nearest-2.ensures))

@@ -27,7 +27,7 @@ start_spec = tie.close (tie.spec
     (λ c. search rules)
     (λ c κs. search rules)
     (λ c. search rules)
-    (λ c κs. let l = c.before in asked _ _ l.before.requires (rw l.all.ensures at c.entry.ensures))
+    (λ c κs. let l = c.before in asked _ _ l.before.requires (rw l.all.ensures at c.entry-s.ensures))
     (λ c κs. search rules)
     (λ c. let n = c.before.before.before.before in
-    one_start n.args.n _ _ (record { lower = c.stepped2.ensures.0; upper = c.stepped2.ensures.1 }) (rule n.args.n n.requires.1)))
+    one_start n.args.n _ _ (record { lower = c.stepped-2.ensures.0; upper = c.stepped-2.ensures.1 }) (rule n.args.n n.requires.1)))

@@ -11,5 +11,5 @@ pub stepped_spec : {M : Type 1} → statement M
 stepped_spec = tie.close (tie.spec
     (λ c. omega (arith, small c))
     (λ c. omega (arith, mul-le-mul (small c) (small c)))
-    (λ c. (c.if1.true, omega arith))
-    (λ c. (c.before.requires.0, c.if1.false)))
+    (λ c. (c.if-r-n.true, omega arith))
+    (λ c. (c.before.requires.0, c.if-r-n.false)))
