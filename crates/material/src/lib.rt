@@ -1,4 +1,6 @@
 // What a sheet is made of (01-scope 5.11): its density, its thickness and how stiff it is. Each routine takes the whole and looks at what it uses.
+#![tactic(auto)]
+
 ghost use Rattle.std.specs.Prelude.{◌≡◌};
 ghost use Rattle.std.specs.Float.{binary64};
 ghost use Rattle.material.specs.Material.{lame_of, is_finite_of, is_bad_of, tested_of, of_word, material_of, lame_material, young_material, stock_sheet};
@@ -11,20 +13,20 @@ pub const LAME: u32 = 2;
 pub const YOUNG: u32 = 3;
 
 // Lamé's two parameters, or Young's modulus and Poisson's ratio.
-#[derive(Drop)]
+#[derive(Clone, Copy)]
 pub enum Stiffness {
     Lame { lambda: f64, myu: f64 },
     Young { e: f64, v: f64 },
 }
 
 // What a kernel computes with.
-#[derive(Drop)]
+#[derive(Clone, Copy)]
 pub struct LamePair {
     pub lambda: f64,
     pub myu: f64,
 }
 
-#[derive(Drop)]
+#[derive(Clone, Copy)]
 pub struct Material {
     pub density: f64,
     pub thickness: f64,
@@ -33,6 +35,7 @@ pub struct Material {
 
 impl Stiffness {
     // A pair as it is, or that of Young's modulus and Poisson's ratio.
+    #[tactic(auto, unfolding(crate::specs::Material::lame_of))]
     pub fn lame(self) -> LamePair
         ensures { result ≡ lame_of binary64 self }
     {
@@ -46,6 +49,7 @@ impl Stiffness {
     }
 
     // Whether both numbers, as they are given, are finite.
+    #[tactic(auto, unfolding(crate::specs::Material::is_finite_of))]
     fn is_finite(self) -> bool
         ensures { result ≡ is_finite_of self }
     {
@@ -56,6 +60,7 @@ impl Stiffness {
     }
 
     // Whether it is none that a sheet can have: Young's modulus is not above 0, or Poisson's ratio not between -1 and 0.5.
+    #[tactic(auto, unfolding(crate::specs::Material::is_bad_of))]
     fn is_bad(self) -> bool
         ensures { result ≡ is_bad_of binary64 self }
     {
@@ -66,6 +71,7 @@ impl Stiffness {
     }
 
     // What a kernel with this stiffness tests, the other numbers that it reads being finite or not.
+    #[tactic(auto, unfolding(crate::specs::Material::tested_of))]
     pub fn tests(
         self,
         others_finite: bool,
@@ -85,6 +91,7 @@ impl Stiffness {
     }
 
     // By its word; any other word gives a modulus that is a zero where a is finite and a NaN where it is not, so that it is refused, with 7 or with 3.
+    #[tactic(auto, unfolding(crate::specs::Material::of_word))]
     fn of_word(s: u32, a: f64, b: f64) -> Stiffness
         ensures { result ≡ of_word binary64 s a b }
     {

@@ -30,16 +30,16 @@ meaning_spec = tie.close (tie.spec
     (λ c κs. tt)
     (λ c. refl)
     (λ c κs. tt)
-    (λ c. let s = c.before.before.before in let e : length s.before.args.words.now ≡ 64 = search rules in rw s.match.keys1 (rw e at c.put.ensures))
-    (λ c. let s = c.before.before.before in let e : length s.before.args.words.now ≡ 64 = search rules in rw s.match.keys2 (rw e at c.put2.ensures))
-    (λ c. let s = c.before.before.before in let e : length s.before.args.words.now ≡ 64 = search rules in rw s.match.keys3 (rw e at c.put3.ensures))
-    (λ c. let s = c.before.before.before in let e : length s.before.args.words.now ≡ 64 = search rules in rw s.match.keys4 (rw e at c.put4.ensures))
-    (λ c. let s = c.before.before.before in let e : length s.before.args.words.now ≡ 64 = search rules in rw s.match.keys5 (rw e at c.put5.ensures))
-    (λ c. let s = c.before.before.before in let e : length s.before.args.words.now ≡ 64 = search rules in rw s.match.keys6 (rw e at c.put6.ensures))
-    (λ c. let s = c.before.before.before in let e : length s.before.args.words.now ≡ 64 = search rules in rw s.match.keys7 (rw e at c.put7.ensures))
-    (λ c. let s = c.before.before.before in let e : length s.before.args.words.now ≡ 64 = search rules in rw s.match.keys8 (rw e at c.put8.ensures))
-    (λ c. let s = c.before.before.before in let e : length s.before.args.words.now ≡ 64 = search rules in rw s.match.keys9 (rw e at c.put9.ensures))
-    (λ c. let s = c.before.before.before in let n = s.match.rest in
+    (λ c. let s = c.before.before.before in let e : length s.before.args.words.now ≡ 64 = search rules in rw s.in_default.keys1 (rw e at c.put.ensures))
+    (λ c. let s = c.before.before.before in let e : length s.before.args.words.now ≡ 64 = search rules in rw s.in_default.keys2 (rw e at c.put-in-1.ensures))
+    (λ c. let s = c.before.before.before in let e : length s.before.args.words.now ≡ 64 = search rules in rw s.in_default.keys3 (rw e at c.put-in-2.ensures))
+    (λ c. let s = c.before.before.before in let e : length s.before.args.words.now ≡ 64 = search rules in rw s.in_default.keys4 (rw e at c.put-in-3.ensures))
+    (λ c. let s = c.before.before.before in let e : length s.before.args.words.now ≡ 64 = search rules in rw s.in_default.keys5 (rw e at c.put-in-7.ensures))
+    (λ c. let s = c.before.before.before in let e : length s.before.args.words.now ≡ 64 = search rules in rw s.in_default.keys6 (rw e at c.put-in-6.ensures))
+    (λ c. let s = c.before.before.before in let e : length s.before.args.words.now ≡ 64 = search rules in rw s.in_default.keys7 (rw e at c.put-in-4.ensures))
+    (λ c. let s = c.before.before.before in let e : length s.before.args.words.now ≡ 64 = search rules in rw s.in_default.keys8 (rw e at c.put-in-5.ensures))
+    (λ c. let s = c.before.before.before in let e : length s.before.args.words.now ≡ 64 = search rules in rw s.in_default.keys9 (rw e at c.put-in-8.ensures))
+    (λ c. let s = c.before.before.before in let n = s.in_default.rest in
     let e : length s.before.args.words.now ≡ 64 = search rules in
     rw (
       ne_eqb _ 0 n.0.0.0.0.0.0.0.0.1,
@@ -51,4 +51,4 @@ meaning_spec = tie.close (tie.spec
       ne_eqb _ 4 n.0.0.1,
       ne_eqb _ 5 n.0.1,
       ne_eqb _ 8 n.1,
-    ) (rw e at c.put10.ensures)))
+    ) (rw e at c.put-in_default.ensures)))

@@ -18,9 +18,9 @@ put_spec = tie.close (tie.spec
     (λ c. omega arith)
     (λ c. omega arith)
     (λ c. let l = c.before.before in
-    (omega arith, refl, rw length-set l.loop.invariant.2, run_more (λ k. k) _ _ l.loop.i refl c.byte.ensures l.loop.invariant.3))
-    (λ c. c.before.loop.invariant.2)
+    (omega arith, refl, rw length-set l.loop-i.invariant.2, run_more (λ k. k) _ _ l.loop-i.i refl c.byte.ensures l.loop-i.invariant.3))
+    (λ c. c.before.loop-i.invariant.2)
     (λ c. let l = c.before in
     let words = l.before.before.before.args.words.now in
-    let e : l.loop.i ≡ length words = omega arith in
-    (refl, (rw e at l.loop.invariant.3) ∙ run_all _ words)))
+    let e : l.loop-i.i ≡ length words = omega arith in
+    (refl, (rw e at l.loop-i.invariant.3) ∙ run_all _ words)))
