@@ -1,4 +1,6 @@
 // What a refusal number means, in words for people (01-scope 2.1).
+#![tactic(auto)]
+
 ghost use Rattle.std.specs.Prelude.{◌≡◌, length, get_or};
 ghost use Rattle.words.specs.Words.{Says, IsMeaning};
 
@@ -23,6 +25,7 @@ fn put(text: &[u8], words: &mut [u8]) -> usize
 }
 
 // Fills words, whatever was in it, and answers how many of its bytes are words; the others are zero.
+#[tactic(auto, unfolding(crate::specs::Words::lookup))]
 pub fn meaning(number: u32, words: &mut [u8; 64]) -> usize
     ensures { IsMeaning number result words.new }
 {
