@@ -1,5 +1,5 @@
 -- The list has its rule at every entry, by one computed test and one law; one number alone has it; and it starts the digit loop.
-use Rattle.std.proofs.Common.{◌≡◌, ℕ, zero, suc, ◌+◌, ◌-◌, ◌*◌, ◌/◌, ◌%◌, ◌^◌, ◌<◌, ◌≤◌, Bool, true, ◌&&◌, T, ltb, leb, List, [], ◌∷◌, length, get_or, le_of_suc-le-suc, not-suc-le-zero, add-zero, add-suc, suc-add, zero_add, arith, ltb→lt, leb→le}
+use Rattle.std.proofs.Common.{◌≡◌, ℕ, zero, suc, ◌+◌, ◌-◌, ◌*◌, ◌/◌, ◌%◌, ◌^◌, ◌<◌, ◌≤◌, Bool, true, ◌&&◌, T, ltb, leb, List, [], ◌∷◌, length, get_or, le_of_suc-le-suc, not-suc-le-zero, add-zero, add-suc, suc-add, zero-add, arith, ltb→lt, leb→le}
 use lib.Ieee.Fits.{and_l, and_r}
 use Rattle.whole_root.specs.Starts.{starts, Start}
 use Rattle.whole_root.proofs.Turn.{Turn}
@@ -23,7 +23,7 @@ passed_at (r ∷ rs) n (suc i) t h = rw (add-suc n i, ← suc-add n i) (passed_a
 -- the list passes: it is computed
 pub rule : (n : ℕ) → n < 1024 → Start n (get_or starts n 0)
 unfolding starts
-rule n h = rw (zero_add n) at (passed_at starts 0 n tt h)
+rule n h = rw (zero-add n) at (passed_at starts 0 n tt h)
 
 -- ---- what the rule says of an entry
 pub one_start : (n r s : ℕ) → Start n r → Start n s → r ≡ s

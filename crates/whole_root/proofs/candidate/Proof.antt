@@ -5,7 +5,7 @@ use Rattle.whole_root.proofs.candidate.Statement.{statement}
 use Rattle.whole_root.proofs.candidate.Tie as tie
 
 -- p is h * y / 2 ^ 33
-module _ (c : tie.After-inverse) where
+module _ (c : tie.After-inverse-y) where
   h_below : c.before.before.args.a / 2 ^ 23 < 2 ^ 31
   h_below = omega arith
 
@@ -13,7 +13,7 @@ module _ (c : tie.After-inverse) where
   p_below = omega (arith, mul-le-mul h_below c.inverse-y.ensures)
 
 -- q is d * y / 2 ^ 34
-d_below : (c : tie.After-wrapping-sub-u64) → c.wrapping_sub_u64-d.result % 2 ^ 32 < 2 ^ 32
+d_below : (c : tie.After-wrapping_sub_u64-d) → c.wrapping_sub_u64-d.result % 2 ^ 32 < 2 ^ 32
 d_below c = omega arith
 
 pub candidate_spec : {M : Type 1} → statement M

@@ -17,20 +17,20 @@ module _ {p q : ℕ} (in_p : p < 2 ^ 30) (in-q : q < 2 ^ 30) where
       omega (arith, f', g', h')
 
 -- after the third test
-module _ (c : tie.Then3) where
+module _ (c : tie.Then-r-s) where
   start : tie.Start
   start = c.before.before.before.before.before.before
 
   s : ℕ
   s = start.args.p * 2 ^ 25 + start.args.q
 
-  left_over : s * s + c.before.wrapping-sub-u643.result ≡ start.args.a * 2 ^ 52
+  left_over : s * s + c.before.wrapping_sub_u64-r.result ≡ start.args.a * 2 ^ 52
   unfolding start s
   left_over =
       let c₂ = c.before.before in
       let c₁ = c₂.before.before in
-      shown start.pre.2 start.pre.3 start.args.a _ _ _ c₁.before.wrapping_sub_u64-d.ensures (omega arith)
-      c₂.before.wrapping-sub-u642.ensures (omega arith) c.before.wrapping-sub-u643.ensures (omega arith)
+      shown start.requires.2 start.requires.3 start.args.a _ _ _ c₁.before.wrapping_sub_u64-d.ensures (omega arith)
+      c₂.before.wrapping_sub_u64-e.ensures (omega arith) c.before.wrapping_sub_u64-r.ensures (omega arith)
 
 pub checked_spec : {M : Type 1} → statement M
 unfolding start s

@@ -1,10 +1,11 @@
 -- `whole_root::digits` meets its contract. The invariant is `Turn`, from the list's five digits on: a turn takes two digits of the number and one of the root. The measure is the turns left.
-use Rattle.std.proofs.Common.{◌≡◌, ℕ, ◌+◌, ◌-◌, ◌*◌, ◌/◌, ◌^◌, ◌<◌, ◌≤◌, get_or, ⊎_elim, lt_of_lt_of_le, arith, pow_mono, rules}
+use Rattle.std.proofs.Common.{◌≡◌, ℕ, ◌+◌, ◌-◌, ◌*◌, ◌/◌, ◌^◌, ◌<◌, ◌≤◌, get_or, lt_of_lt_of_le, arith, pow_mono, rules}
 use Rattle.whole_root.specs.Steps.{Digits}
 use Rattle.whole_root.specs.Starts.{starts, Start}
 use Rattle.whole_root.proofs.Turn.{Turn, turn_0, turn_1}
 use Rattle.whole_root.proofs.Whole.{root_pos}
 use Rattle.whole_root.proofs.Starts.{rule, started}
+use Rattle.whole_root.proofs.digits.Lts.{then-w-t, else-w-t}
 use Rattle.whole_root.proofs.digits.Statement.{statement}
 use Rattle.whole_root.proofs.digits.Tie as tie
 
@@ -41,6 +42,8 @@ digits_spec = tie.close (tie.spec
     (λ c. omega arith)
     (λ c. omega arith)
     (λ c. let l = c.before.before.loop-i in
-    carried (omega arith)
-    (⊎_elim (λ w. rw (w.1, w.2) (turn_0 l.invariant.0 w.0.taken)) (λ w. rw (w.1, w.2) (turn_1 l.invariant.0 w.0.left)) c.if-w-t.branch))
+    carried (omega arith) (elim c.if-w-t.branch [
+      | then-w-t w ↦ rw (w.s-is, w.r-is) (turn_0 l.invariant.0 w.if-w-t.true)
+      | else-w-t w ↦ rw (w.s-is, w.r-is) (turn_1 l.invariant.0 w.if-w-t.false)
+    ]))
     (λ c. ended _ _ _ _ _ (omega arith) c.loop-i-test.false c.before.loop-i.invariant))

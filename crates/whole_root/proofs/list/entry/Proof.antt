@@ -3,8 +3,8 @@ use Rattle.std.proofs.Common.{◌≡◌, ℕ, get_or, sym, ap, arith, rules}
 use Rattle.whole_root.proofs.list.entry.Statement.{statement}
 use Rattle.whole_root.proofs.list.entry.Tie as tie
 
-same_place : (c : tie.Start) (i : ℕ) → c.args.k ≡ i → get_or c.args.t1 i 0 ≡ get_or c.args.t1 c.args.k 0
-same_place c i e = ap (λ (z : ℕ). get_or c.args.t1 z 0) (sym e)
+same_place : (c : tie.Start) (i : ℕ) → c.args.k ≡ i → get_or c.args.t i 0 ≡ get_or c.args.t c.args.k 0
+same_place c i e = ap (λ (z : ℕ). get_or c.args.t z 0) (sym e)
 
 pub entry_spec : {M : Type 1} → statement M
 entry_spec = tie.close (tie.spec
