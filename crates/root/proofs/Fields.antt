@@ -2,7 +2,7 @@
 use mathlib.Core.Path.{◌≡◌, ap, ◌∙◌}
 use mathlib.Core.Bool.{false}
 use Prim.Native.Nat.{ℕ, suc, ◌+◌, ◌-◌, ◌*◌, ◌/◌, ◌%◌, ◌^◌, ◌≤◌, ◌<◌}
-use native.Mathlib.Nat.{mod-lt, div-lt_iff_lt-mul, div-add-mod', zero_add, add_comm}
+use native.Mathlib.Nat.{mod-lt, div-lt_iff_lt-mul, div-add-mod', zero-add, add_comm}
 use native.Mathlib.Omega.{arith}
 use lib.Pow.{pow-add, pow_pos}
 use lib.Ieee.{Float, Format, prec, low, hid, ones, of_bits}
@@ -17,7 +17,7 @@ unpack_subnormal f g b m u h from below most e = record {
   from = from;
   below = below;
   most = omega (arith, two f, reach f);
-  value = rw e (rw (zero_add g) at (lift (of_bits f b) false b 0 (low f) g (subnormal_value f b h)));
+  value = rw e (rw (zero-add g) at (lift (of_bits f b) false b 0 (low f) g (subnormal_value f b h)));
 }
 
 pub unpack_normal : (f : Format) (g b : ℕ) → 1 ≤ g → (b / hid f ≡ 0 → ⊥) → b < ones f * hid f → Unpacked f g b (b % hid f + hid f) (b / hid f + (g - 1))

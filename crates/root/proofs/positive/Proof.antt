@@ -29,5 +29,5 @@ pub positive_spec : {M : Type 1} → statement M
 positive_spec = tie.close (tie.spec
     (λ c κs. search rules)
     (λ c κs. search rules)
-    (λ c κs. packs _ c.before.before.unpack.ensures c.before.nearest_root.ensures)
-    (λ c. let n = c.before.before in roots _ n.before.unpack.ensures n.nearest_root.ensures _ c.pack.ensures (rw c.pack.type-inv tt)))
+    (λ c κs. packs _ c.before.before.unpack-p.ensures c.before.nearest_root.ensures)
+    (λ c. let n = c.before.before in roots _ n.before.unpack-p.ensures n.nearest_root.ensures _ c.pack.ensures (rw c.pack.type_inv tt)))

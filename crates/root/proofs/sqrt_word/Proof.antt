@@ -11,4 +11,4 @@ sqrt_word_spec = tie.close (tie.spec
     (λ c κs. search rules)
     (λ c κs. search rules)
     (λ c. let s = c.before in
-    answered_word binary64 _ _ _ _ (rw s.sqrt.type-inv tt) s.before.of_word.ensures s.sqrt.ensures c.to_word.ensures))
+    answered_word binary64 _ _ _ _ (rw s.sqrt.type_inv tt) s.before.of_word.ensures s.sqrt.ensures c.to_word.ensures))

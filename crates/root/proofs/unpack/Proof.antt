@@ -17,4 +17,4 @@ unpack_spec = tie.close (tie.spec
     (λ c. search rules)
     (λ c. let b = c.before.args.b in
     let digits : significand (b * 2 ^ 11 % 2 ^ 64) ≡ b % 2 ^ 52 + 2 ^ 52 = omega arith in
-    rw digits (unpack_normal binary64 1022 b (lit≤ tt) c.if1.false c.before.requires.1)))
+    rw digits (unpack_normal binary64 1022 b (lit≤ tt) c.if-e-eq0.false c.before.requires.1)))
