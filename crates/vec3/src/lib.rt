@@ -3,7 +3,7 @@ ghost use Rattle.std.specs.Prelude.{◌≡◌};
 ghost use Rattle.std.specs.Float.{binary64};
 ghost use Rattle.vec3.specs.Vec3.{dot_of, cross_of, sub_of, scale_of, norm_of, over_of, unit_of, normalize_of};
 
-#[derive(Drop)]
+#[derive(Clone, Copy)]
 pub struct V3 {
     pub x: f64,
     pub y: f64,

@@ -5,4 +5,4 @@ use Rattle.vec3.proofs.over.Tie as tie
 
 pub over_spec : {M : Type 1} → statement M
 unfolding over_of
-over_spec = tie.close (tie.spec (λ c κs. tt) (λ c. rw c.scale.ensures))
+over_spec = tie.close (tie.spec (λ c κs. tt) (λ c. rw c.scale-v.ensures))
