@@ -3,7 +3,7 @@
 use mathlib.Core.Path.{refl}
 use mathlib.Core.Bool.{Bool, false}
 use mathlib.Core.List.{List, [], ◌∷◌}
-use Prim.Native.Nat.{ℕ, ◌+◌, ◌-◌, ◌*◌, ◌^◌, ◌≤◌, ◌<◌}
+use Prim.Native.Nat.{ℕ, suc, ◌+◌, ◌-◌, ◌*◌, ◌^◌, ◌≤◌, ◌<◌}
 use native.Mathlib.Nat.{mul-le-mul_right, le_of_mul-le-mul_right, lt_of_mul-lt-mul_right, mul-lt-mul_of_pos_right, lt_of_le_of_lt, lt_of_not-le, mul-pos}
 use native.Mathlib.Decide.{dec_le}
 use native.Mathlib.Omega.{arith}
@@ -94,7 +94,7 @@ module _ (f : Format) where
         → 2 * (d + length l) ≤ 2 ^ prec f → 4 * (S₀ + sum_of S l) < overflow f * K → T (finite (fold (λ s a. s ⊕ g a) s l))
     unfolding fold sum_of
     fold_finite s [] h t e ts r o = t
-    fold_finite {d} {S₀} s (a ∷ l) h t e ((u, k), ts) r o =
+    fold_finite {d = d} {S₀ = S₀} {n = n} s (a ∷ l) h t e ((u, k), ts) r o =
         let k' = near_more h k in
         let less : 2 * d ≤ 2 ^ prec f = omega arith in
         let p : Number f s = record { fit = e.fit; fine = t } in
@@ -103,7 +103,7 @@ module _ (f : Format) where
         rw (size_value f s, size_value f (g a)) at (size_sum (value f s ⊞ value f (g a)) (value f s) (value f (g a)) refl) in
         let v = nearest_finite f 1 (s ⊕ g a) _ (add_nearest f s (g a) p q)
         (lt_of_mul-lt-mul_right K (go _ (mag f s) (mag f (g a)) (overflow f) (S a) (sum_of S l) b (near_size less e) (near_size less k') o)) in
-        fold_finite (s ⊕ g a) l (omega arith) v (add_near f e k' v) ts (omega arith) (omega arith)
+        fold_finite {d = suc d} {S₀ = S₀ + S a} {n = n ⊞ y a} (s ⊕ g a) l (omega arith) v (add_near f e k' v) ts (omega arith) (omega arith)
       where
         go : (m a b O S₁ R : ℕ) → m ≤ a + b → K * a ≤ 2 * S₀ → K * b ≤ 2 * S₁ → 4 * (S₀ + (S₁ + R)) < O * K → 2 * m * K < O * 1 * K
         go m a b O S₁ R h i j o = omega (arith, mul-le-mul_right K h)

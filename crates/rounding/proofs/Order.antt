@@ -12,11 +12,9 @@ use lib.Ieee.{Float, nan, inf, fin, Format, low, up, down, below, level, lt, eq,
 use lib.Ieee.Fits.{down_pos}
 use lib.Ieee.Exact.{HasValue}
 use borrow.Author.Tests.{ltb-true, lt-ltb, eqb-true, eq-eqb}
-use Rattle.float.specs.Ops.{ops}
 use Rattle.float.proofs.Scan.{both}
-use Rattle.rounding.specs.Exact.{Num, Equal, signed, Negative, mag, sign, value, Number}
+use Rattle.rounding.specs.Exact.{Num, Equal, signed, mag, sign, value, Number}
 use Rattle.rounding.proofs.Value.{known}
-use Rattle.rounding.proofs.Sums.{zero_number, zero_value}
 
 -- a is below b where a's left of b is below b's left of a: differences compared without taking them
 abbrev pub left : Num → Num → ℕ

@@ -74,10 +74,10 @@ module _ {A : Type 0} (f : Format) (g : A → Float) where
         → T (finite (from s l)) → Near f (d + length l) K (from s l) (n ⊞ exact_sum y l) (S₀ + sum_of S l)
     unfolding fold sum_of
     from_near s [] h e ts t = near_as (omega arith) (omega arith) (omega arith) (omega arith) e
-    from_near s (a ∷ l) h e ts t =
+    from_near {d = d} {S₀ = S₀} {n = n} s (a ∷ l) h e ts t =
         let u = from_finite (s ⊕ g a) l t in
         near_as (omega arith) (omega arith) (omega arith) (omega arith)
-        (from_near (s ⊕ g a) l (omega arith) (add_near f e (near_more h (ts.0 (add_finite f s (g a) u).1)) u) ts.1 t)
+        (from_near {d = suc d} {S₀ = S₀ + S a} {n = n ⊞ y a} (s ⊕ g a) l (omega arith) (add_near f e (near_more h (ts.0 (add_finite f s (g a) u).1)) u) ts.1 t)
 
     -- ---- THE law of a sum from left to right: d terms, each (where it is finite) after c roundings, are c + d - 1 roundings, and within (c + d) / 2 ^ prec
     pub sum_within : (l : List A) → All (λ a. T (finite (g a)) → Near f c K (g a) (y a) (S a)) l → T (finite (total f g l))
