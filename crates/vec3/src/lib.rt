@@ -11,7 +11,7 @@ pub struct V3 {
 }
 
 // A vector that was scaled by 1 / by: kernels refuse where `by` is zero.
-#[derive(Drop)]
+#[derive(Clone, Copy)]
 pub struct Divided {
     pub v: V3,
     pub by: f64,
