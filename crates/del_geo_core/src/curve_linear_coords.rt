@@ -6,7 +6,7 @@ ghost use Rattle.del_geo_core.specs.CurveLinearCoords.{contravariant_of, inverse
 use vec3::{Divided, V3};
 
 // Three contravariant vectors, each with the dot that divided it: gu[0] of the sources is gu.x.
-#[derive(Drop)]
+#[derive(Clone, Copy)]
 pub struct DualBasis {
     pub x: Divided,
     pub y: Divided,

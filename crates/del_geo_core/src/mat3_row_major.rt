@@ -6,7 +6,7 @@ ghost use Rattle.del_geo_core.specs.Mat3RowMajor.{mult_vec_of};
 use vec3::V3;
 
 // Its rows: the entry at row 0 and column 1 is x.y.
-#[derive(Drop)]
+#[derive(Clone, Copy)]
 pub struct Matrix3 {
     pub x: V3,
     pub y: V3,

@@ -3,13 +3,13 @@ ghost use Rattle.std.specs.Prelude.{◌≡◌};
 ghost use Rattle.std.specs.Float.{binary64};
 ghost use Rattle.del_geo_core.specs.Tri2.{is_right_of, turn_of, signed_area_of, turns_right};
 
-#[derive(Drop)]
+#[derive(Clone, Copy)]
 pub struct V2 {
     pub x: f64,
     pub y: f64,
 }
 
-#[derive(Drop)]
+#[derive(Clone, Copy)]
 pub struct Tri2 {
     pub p0: V2,
     pub p1: V2,
@@ -17,14 +17,14 @@ pub struct Tri2 {
 }
 
 // Which way the corners run: left is counterclockwise.
-#[derive(Drop)]
+#[derive(Clone, Copy)]
 pub enum Turn {
     Left,
     Right,
     Flat,
 }
 
-#[derive(Drop)]
+#[derive(Clone, Copy)]
 pub struct SignedArea {
     pub area: f64,
     pub turn: Turn,

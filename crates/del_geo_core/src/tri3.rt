@@ -5,7 +5,7 @@ ghost use Rattle.del_geo_core.specs.Tri3.{normal_of, area_of, unit_normal_area_o
 
 use vec3::{Divided, V3};
 
-#[derive(Drop)]
+#[derive(Clone, Copy)]
 pub struct Tri3 {
     pub p0: V3,
     pub p1: V3,
@@ -13,7 +13,7 @@ pub struct Tri3 {
 }
 
 // The unit normal with the norm that divided it, and the area.
-#[derive(Drop)]
+#[derive(Clone, Copy)]
 pub struct NormalArea {
     pub normal: Divided,
     pub area: f64,

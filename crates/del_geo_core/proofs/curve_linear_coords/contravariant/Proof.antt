@@ -9,4 +9,4 @@ contravariant_spec = tie.close (tie.spec
     (λ c κs. tt)
     (λ c κs. tt)
     (λ c κs. tt)
-    (λ c. rw (c.over.ensures, c.before.dot.ensures, c.before.before.cross.ensures)))
+    (λ c. rw (c.over.ensures, c.before.dot.ensures, c.before.before.cross-gu.ensures)))

@@ -9,4 +9,4 @@ inverse_spec = tie.close (tie.spec
     (λ c κs. tt)
     (λ c κs. tt)
     (λ c κs. tt)
-    (λ c. rw (c.contravariant3.ensures, c.before.contravariant2.ensures, c.before.before.contravariant.ensures)))
+    (λ c. rw (c.contravariant-z.ensures, c.before.contravariant-y.ensures, c.before.before.contravariant-x.ensures)))

@@ -9,4 +9,4 @@ mult_vec_spec = tie.close (tie.spec
     (λ c κs. tt)
     (λ c κs. tt)
     (λ c κs. tt)
-    (λ c. rw (c.dot3.ensures, c.before.dot2.ensures, c.before.before.dot.ensures)))
+    (λ c. rw (c.dot-3.ensures, c.before.dot-2.ensures, c.before.before.dot.ensures)))

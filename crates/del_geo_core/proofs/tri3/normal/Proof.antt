@@ -9,4 +9,4 @@ normal_spec = tie.close (tie.spec
     (λ c κs. tt)
     (λ c κs. tt)
     (λ c κs. tt)
-    (λ c. rw (c.cross.ensures, c.before.sub2.ensures, c.before.before.sub.ensures)))
+    (λ c. rw (c.cross.ensures, c.before.sub-2.ensures, c.before.before.sub.ensures)))

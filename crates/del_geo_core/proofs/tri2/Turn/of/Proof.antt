@@ -6,6 +6,6 @@ use Rattle.del_geo_core.proofs.tri2.Turn.of.Tie as tie
 pub of_spec : {M : Type 1} → statement M
 unfolding turn_of
 of_spec = tie.close (tie.spec
-    (λ c. rw c.if1.true)
-    (λ c. rw (c.before.if1.false, c.if2.true))
-    (λ c. rw (c.before.if1.false, c.if2.false)))
+    (λ c. rw c.if-area.true)
+    (λ c. rw (c.before.if-area.false, c.if-area-2.true))
+    (λ c. rw (c.before.if-area.false, c.if-area-2.false)))
