@@ -1,6 +1,8 @@
 // IEEE 754's squareRoot of a binary64, nearest, by whole numbers on its bits (01-scope 4). A finite x above 0 is a * 2^52 times the
 // square of a power of two, with 2^52 <= a < 2^54, and its root has the digits of R, the whole number nearest to the root of a * 2^52.
 // Here x is taken apart, and the answer put together from its digits, which `whole_root` finds.
+#![tactic(auto)]
+
 ghost use Rattle.std.specs.Prelude.{false, ◌*◌, ◌^◌, ◌≤◌, ◌<◌};
 ghost use Rattle.std.specs.Float.{binary64};
 ghost use Rattle.std.specs.Float.Ieee.{of_bits};

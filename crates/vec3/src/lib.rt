@@ -1,4 +1,6 @@
 // Vectors of three numbers: the original's `vec3` (01-scope 3). A point or vector is a struct by value, and every step one operation in the order written.
+#![tactic(auto)]
+
 ghost use Rattle.std.specs.Prelude.{◌≡◌};
 ghost use Rattle.std.specs.Float.{binary64};
 ghost use Rattle.vec3.specs.Vec3.{dot_of, cross_of, sub_of, scale_of, norm_of, over_of, unit_of, normalize_of};

@@ -7,6 +7,8 @@
 // and for R = s + 1 where r is from s + 1 to 3 s + 2. How near the candidate s is, no proof asks.
 // Where a test fails, the digits of the whole root are found one by one, after the first five, which are the same entry of the list,
 // and what is left over decides in the same way. Of the candidate nothing is used then.
+#![tactic(auto)]
+
 ghost use Rattle.std.specs.Prelude.{◌≡◌, ◌+◌, ◌*◌, ◌^◌, ◌<◌, ◌≤◌};
 ghost use Rattle.whole_root.specs.Whole.{Close, evened_of};
 ghost use Rattle.whole_root.specs.Steps.{Digits};
