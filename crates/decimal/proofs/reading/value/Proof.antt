@@ -12,4 +12,4 @@ value_spec = tie.close (tie.spec
     (λ c. counts _ c.before.before.requires.0)
     (λ c. omega arith)
     (λ c κs. omega arith)
-    (λ c. let s = c.before.before.before in rw c.ten2.ensures (quotient s.args.m s.args.up s.args.down s.requires.0 s.requires.2 (omega arith))))
+    (λ c. let s = c.before.before.before in rw c.ten-2.ensures (quotient s.args.m s.args.up s.args.down s.requires.0 s.requires.2 (omega arith))))

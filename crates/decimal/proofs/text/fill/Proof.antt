@@ -16,6 +16,6 @@ fill_spec = tie.close (tie.spec
     (λ c. omega arith)
     (λ c. omega arith)
     (λ c. omega arith)
-    (λ c. let l = c.before in (omega arith, rw length-set l.loop.invariant.1, rw l.loop.invariant.2 (fill_more l.before.args.field.now l.loop.i l.before.args.b (omega arith))))
+    (λ c. let l = c.before in (omega arith, rw length-set l.loop-i.invariant.1, rw l.loop-i.invariant.2 (fill_more l.before.args.field.now l.loop-i.i l.before.args.b (omega arith))))
     (λ c. omega arith)
-    (λ c. let l = c.before in let e : l.loop.i ≡ l.before.args.n = omega arith in rw e at l.loop.invariant.2))
+    (λ c. let l = c.before in let e : l.loop-i.i ≡ l.before.args.n = omega arith in rw e at l.loop-i.invariant.2))

@@ -7,7 +7,7 @@ use Rattle.decimal.proofs.text.put.Tie as tie
 
 pub put_spec : {M : Type 1} → statement M
 put_spec = tie.close (tie.spec
-    (λ c. put_none _ _ _ c.if1.true)
+    (λ c. put_none _ _ _ c.if-at-lt2.true)
     (λ c. search rules)
     (λ c. search rules)
     (λ c. search rules)

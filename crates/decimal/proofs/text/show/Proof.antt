@@ -10,13 +10,13 @@ show_spec = tie.close (tie.spec
     (λ c κs. search rules)
     (λ c. search rules)
     (λ c κs. search rules)
-    (λ c κs. omega (arith, c.before.before.before.before.written.ensures.room))
+    (λ c κs. omega (arith, c.before.before.before.before.written-at.ensures.room))
     (λ c. search rules)
     (λ c. let w = c.before.before.before.before.before.before.before in
-    too_short (rw w.before.before.least.ensures.0 at w.written.ensures) c.before.before.before.before.if1.true c.before.before.fill.ensures)
+    too_short (rw w.before.before.least.ensures.0 at w.written-at.ensures) c.before.before.before.before.if-at-eq0.true c.before.before.fill.ensures)
     (λ c. omega arith)
-    (λ c κs. let w = c.before.before.before.before.written.ensures in omega (arith, w.long, w.room))
+    (λ c κs. let w = c.before.before.before.before.written-at.ensures in omega (arith, w.long, w.room))
     (λ c. omega arith)
     (λ c. search rules)
     (λ c. let w = c.before.before.before.before.before.before.before in
-    placed (rw w.before.before.least.ensures.0 at w.written.ensures) (omega arith) c.before.before.fill2.ensures))
+    placed (rw w.before.before.least.ensures.0 at w.written-at.ensures) (omega arith) c.before.before.fill-2.ensures))

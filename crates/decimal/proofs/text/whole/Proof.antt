@@ -15,12 +15,12 @@ whole_spec = tie.close (tie.spec
     (λ c. omega arith)
     (λ c. omega arith)
     (λ c κs. c.before.before.requires)
-    (λ c. (19, omega arith, started (omega (arith, c.before.before.put.ensures.long, c.before.before.put.ensures.room)) refl))
+    (λ c. (19, omega arith, started (omega (arith, c.before.before.put-here.ensures.long, c.before.before.put-here.ensures.room)) refl))
     (λ c. omega arith)
     (λ c. omega arith)
-    (λ c κs. c.before.before.loop.invariant.2.inside)
+    (λ c κs. c.before.before.loop-rest.invariant.2.inside)
     (λ c. omega arith)
-    (λ c. let l = c.before.before.before.before.before.loop in let (left, h, d) = l.invariant in let (e, g) = few_more left l.rest (omega arith) h in
-    (left - 1, g, one_more d e c.before.before.put2.ensures))
-    (λ c. c.before.loop.invariant.2.room ∙ c.before.before.before.before.put.ensures.room)
-    (λ c. let (left, _, d) = c.before.loop.invariant in then c.before.before.before.before.put.ensures (finished d (few_ended left _ (omega arith)))))
+    (λ c. let l = c.before.before.before.before.before.loop-rest in let (left, h, d) = l.invariant in let (e, g) = few_more left l.rest (omega arith) h in
+    (left - 1, g, one_more d e c.before.before.put-here-in-loop-rest.ensures))
+    (λ c. c.before.loop-rest.invariant.2.room ∙ c.before.before.before.before.put-here.ensures.room)
+    (λ c. let (left, _, d) = c.before.loop-rest.invariant in then c.before.before.before.before.put-here.ensures (finished d (few_ended left _ (omega arith)))))

@@ -15,9 +15,9 @@ word_spec = tie.close (tie.spec
     (λ c. (omega arith, started c.before.before.requires (take-length _)))
     (λ c. omega arith)
     (λ c. omega arith)
-    (λ c κs. c.before.before.before.loop.invariant.1.inside)
+    (λ c κs. c.before.before.before.loop-i.invariant.1.inside)
     (λ c. omega arith)
     (λ c. let l = c.before.before.before.before.before.before in
-    (omega arith, one_more l.loop.invariant.1 (take_more _ l.loop.i (omega arith) (omega arith)) c.before.before.put.ensures))
-    (λ c. c.before.loop.invariant.1.room)
-    (λ c. let e : c.before.loop.i ≡ 0 = omega arith in finished c.before.loop.invariant.1 (rw e)))
+    (omega arith, one_more l.loop-i.invariant.1 (take_more _ l.loop-i.i (omega arith) (omega arith)) c.before.before.put-here.ensures))
+    (λ c. c.before.loop-i.invariant.1.room)
+    (λ c. let e : c.before.loop-i.i ≡ 0 = omega arith in finished c.before.loop-i.invariant.1 (rw e)))

@@ -7,10 +7,10 @@ use Rattle.decimal.proofs.units.rounded.Tie as tie
 
 pub rounded_spec : {M : Type 1} → statement M
 rounded_spec = tie.close (tie.spec
-    (λ c k t. below _ _ _ (omega (arith, mul-le-mul_right k c.if1.true)))
+    (λ c k t. below _ _ _ (omega (arith, mul-le-mul_right k c.if-over-half.true)))
     (λ c. omega arith)
-    (λ c k t. above _ _ _ (omega (arith, mul-le-mul_right k c.if2.true)) (omega (arith, mul-le-mul_right k c.before.before.requires.1)))
+    (λ c k t. above _ _ _ (omega (arith, mul-le-mul_right k c.if-half-over.true)) (omega (arith, mul-le-mul_right k c.before.before.requires.1)))
     (λ c. omega arith)
     (λ c. omega arith)
-    (λ c k t. above _ _ _ (omega (arith, mul-le-mul_right k c.before.before.if1.false)) (omega (arith, mul-le-mul_right k c.before.before.before.requires.1)))
-    (λ c k t. even _ _ _ (omega (arith, mul-le-mul_right k c.before.before.if1.false, mul-le-mul_right k c.before.if2.false))))
+    (λ c k t. above _ _ _ (omega (arith, mul-le-mul_right k c.before.before.if-over-half.false)) (omega (arith, mul-le-mul_right k c.before.before.before.requires.1)))
+    (λ c k t. even _ _ _ (omega (arith, mul-le-mul_right k c.before.before.if-over-half.false, mul-le-mul_right k c.before.if-half-over.false))))
