@@ -4,7 +4,7 @@ use mathlib.Core.Bool.{true}
 use mathlib.Core.List.{List, [], ◌∷◌, ◌++◌, append_assoc, append-nil}
 use mathlib.Core.Logic.{◌↔◌}
 use Prim.Native.Nat.{ℕ, ◌+◌, ◌*◌, ◌<◌}
-use native.Mathlib.Nat.{zero_add}
+use native.Mathlib.Nat.{zero-add}
 use native.Mathlib.Omega.{arith}
 use lib.ListN.{length, take, drop, length-append, length-drop, take-append-drop}
 use lib.Seq.{take_at, take-append_seam, length-take-le, drop-append_seam}
@@ -73,7 +73,7 @@ pub cut_short : (c : Content) → Valid c → (k : ℕ) → k < length (encode c
 cut_short c valid k h =
     let f = take k (encode c) in
     let rest = drop k (encode c) in
-    let place : 0 + length f ≡ k = zero_add (length f) ∙ length-take-le k (encode c) (omega arith) in
+    let place : 0 + length f ≡ k = zero-add (length f) ∙ length-take-le k (encode c) (omega arith) in
     let more : 0 < length rest = rw length-drop (omega arith) in
     let right : File 0 (f ++ rest) = rw (take-append-drop k (encode c)) (file_right c valid) in
     refused_at f k (after_bad (file_from f 0) (end_at f) k ((file_part f).cut 0 0 f rest right more refl ∙ ap Bad place))

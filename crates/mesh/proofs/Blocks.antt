@@ -4,7 +4,7 @@ use mathlib.Core.Bool.{Bool, true, false, ◌&&◌, true≢false}
 use mathlib.Core.List.{List, [], ◌∷◌, ◌++◌}
 use mathlib.Core.Logic.{◌↔◌, inl, inr}
 use Prim.Native.Nat.{ℕ, zero, suc, ◌+◌, ◌*◌, ◌≤◌, ◌<◌}
-use native.Mathlib.Nat.{zero_add, mul-le-mul_left}
+use native.Mathlib.Nat.{zero-add, mul-le-mul_left}
 use native.Mathlib.Omega.{arith}
 use lib.Dec.{leb}
 use lib.ListN.{length, get_or, take, drop, length-append, take-append-drop}
@@ -84,8 +84,8 @@ module _ (rule : Rule) where
   module _ (w k : ℕ) where
     are_right : (t : List ℕ) → right_from rule 0 (decode w k t) ≡ true ↔ ((i : ℕ) → i < k → right rule i (number_at w i t) ≡ true)
     are_right t = (
-      (λ r i h. rw (zero_add i, decode_at w k t i h) at (each_right 0 (decode w k t) r i (rw decode_length h))),
-      (λ h. all_right 0 (decode w k t) (λ i l. let in-k : i < k = rw decode_length at l in rw (zero_add i, decode_at w k t i in-k) (h i in-k))),
+      (λ r i h. rw (zero-add i, decode_at w k t i h) at (each_right 0 (decode w k t) r i (rw decode_length h))),
+      (λ h. all_right 0 (decode w k t) (λ i l. let in-k : i < k = rw decode_length at l in rw (zero-add i, decode_at w k t i in-k) (h i in-k))),
     )
 
     -- number i of k that are there, where more follows

@@ -3,7 +3,7 @@ use mathlib.Core.Path.{◌≡◌, refl, sym, ◌∙◌, ap}
 use mathlib.Core.Bool.{true}
 use mathlib.Core.List.{List, [], ◌∷◌, ◌++◌, append_assoc, append-nil}
 use Prim.Native.Nat.{ℕ, zero, suc, ◌+◌, ◌*◌, ◌/◌, ◌%◌, ◌^◌, ◌≤◌, ◌<◌}
-use native.Mathlib.Nat.{add-zero, zero_add, mul-le-mul_right, pow-succ'}
+use native.Mathlib.Nat.{add-zero, zero-add, mul-le-mul_right, pow-succ'}
 use native.Mathlib.Omega.{arith}
 use lib.ListN.{length, get_or, take, drop, length-append, length-drop, take-append-drop}
 use lib.Seq.{length-take-le, take_all, take_at, drop_at, take-add, drop-drop, take-append-le, drop-append-le}
@@ -44,7 +44,7 @@ bytes_after k a (b ∷ xs) e =
 
 pub bytes_of_number : (xs : List ℕ) → fit_in 1 xs ≡ true → bytes (length xs) (big_endian xs) ≡ xs
 unfolding big_endian bytes
-bytes_of_number xs e = rw (zero_add (length xs)) at (bytes_after 0 0 xs e)
+bytes_of_number xs e = rw (zero-add (length xs)) at (bytes_after 0 0 xs e)
 
 below_after : (a : ℕ) (xs : List ℕ) → fit_in 1 xs ≡ true → fold (λ w b. w * 256 + b) a xs < (a + 1) * 256 ^ length xs
 unfolding every fold

@@ -1,7 +1,7 @@
 -- What `found` makes of an item, for the code that has r for the item s.
 use mathlib.Core.Path.{◌≡◌, sym, ◌∙◌}
 use Prim.Native.Nat.{ℕ}
-use Rattle.mesh.specs.Found.{found, IsFound}
+use Rattle.mesh.specs.Found.{found}
 use Rattle.mesh.specs.declared.Step.{Step}
 use Rattle.mesh.specs.declared.Step.TheVariants.{Next, Bad}
 use Rattle.mesh.specs.declared.Found.{Found}

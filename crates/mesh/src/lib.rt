@@ -1,4 +1,6 @@
 // Reads legacy VTK files of triangles, version 3.0, binary (01-scope 5.9), where they lie: in one pass, with no copy.
+#![tactic(auto)]
+
 ghost use Rattle.mesh.specs.Text;
 ghost use Rattle.mesh.specs.Items;
 ghost use Rattle.std.specs.Prelude.{◌≡◌, [], ◌∷◌, ◌+◌, ◌*◌, ◌<◌, ◌≤◌, length, drop, take};
@@ -43,7 +45,7 @@ enum Step {
 }
 
 // What the numbers of a block have to be: 3 and then three names below a count, or 5.
-#[derive(Drop)]
+#[derive(Clone, Copy)]
 enum Rule {
     Cell(usize),
     Five,

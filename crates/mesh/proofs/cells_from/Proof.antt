@@ -16,7 +16,6 @@ cells_from_spec = tie.close (tie.spec
     (λ c κs. tt)
     (λ c. search rules)
     (λ c. search rules)
-    (λ c. let close = c.before.before in stop (closed_of _ close.closed.ensures close.before.block.ensures) _ _ c.enum_told.given.1)
-    (λ c κs. let known = c.before in let close = known.before.before in closed_within _ _ _ _ (sym close.closed.ensures ∙ known.points.given.1))
-    (λ c. let known = c.before.before in let close = known.before.before in
-    go_on (closed_of _ close.closed.ensures close.before.block.ensures) _ _ _ known.points.given.1 c.cells_count.ensures))
+    (λ c. stop (closed_of _ c.closed-points.ensures c.block.ensures) _ _ c.in_default.is)
+    (λ c κs. closed_within _ _ _ _ (sym c.closed-points.ensures ∙ c.in-Next.is))
+    (λ c. go_on (closed_of _ c.closed-points.ensures c.block.ensures) _ _ _ c.in-Next.is c.cells_count.ensures))

@@ -13,7 +13,6 @@ end_from_spec = tie.close (tie.spec
     (λ c κs. tt)
     (λ c. search rules)
     (λ c. search rules)
-    (λ c. let close = c.before.before in stop (closed_of _ close.closed.ensures close.before.numbers.ensures) _ _ c.enum_told.given.1)
+    (λ c. stop (closed_of _ c.closed-types.ensures c.numbers.ensures) _ _ c.in_default.is)
     (λ c κs. tt)
-    (λ c. let known = c.before.before in let close = known.before.before in
-    go_on (closed_of _ close.closed.ensures close.before.numbers.ensures) _ _ _ known.types.given.1 c.end.ensures))
+    (λ c. go_on (closed_of _ c.closed-types.ensures c.numbers.ensures) _ _ _ c.in-Next.is c.end.ensures))

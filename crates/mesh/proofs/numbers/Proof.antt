@@ -4,16 +4,15 @@ use Prim.Native.Nat.{◌-◌, ◌≤◌}
 use native.Mathlib.Omega.{arith}
 use lib.ListN.{length, drop}
 use borrow.Author.Rules.{rules}
-use borrow.Author.Tests.{not-true, not-false}
 use Rattle.mesh.specs.Items.{right, numbers}
 use Rattle.mesh.proofs.Scans.{numbers_done, numbers_ended, numbers_wrong, numbers_more}
 use Rattle.mesh.proofs.numbers.Statement.{statement}
 use Rattle.mesh.proofs.numbers.Tie as tie
 
-abbrev Left : tie.invariant-loop
+abbrev Left : tie.invariant-loop-i
 Left file at rule k i₀ here₀ i here = (here ≤ length file) × (numbers rule 4 (k - i) i here (drop here file) ≡ numbers rule 4 k 0 at (drop at file))
 
-abbrev turns : tie.decreases-loop
+abbrev turns : tie.decreases-loop-i
 turns file at rule k i₀ here₀ i here = k - i
 
 pub numbers_spec : {M : Type 1} → statement M
@@ -21,17 +20,17 @@ numbers_spec = tie.close (tie.spec Left turns
     (λ c. let z : c.before.args.k - 0 ≡ c.before.args.k = omega arith in (omega arith, rw z))
     (λ c. search rules)
     (λ c. let l = c.before.before in let a = l.before.before.args in
-    sym (numbers_ended a.file.now l.loop.here a.rule 4 a.k l.loop.i (omega arith) (omega arith) (omega arith)) ∙ l.loop.invariant.1)
+    sym (numbers_ended a.file.now l.loop-i.here a.rule 4 a.k l.loop-i.i (omega arith) (omega arith) (omega arith)) ∙ l.loop-i.invariant.1)
     (λ c κs. omega arith)
     (λ c κs. tt)
     (λ c. let l = c.before.before.before.before.before in let a = l.before.before.args in
-    let wrong = sym (ap (right a.rule l.loop.i) c.before.before.number.ensures) ∙ sym c.before.right.ensures ∙ not-true _ c.if2.true in
-    sym (numbers_wrong a.file.now l.loop.here a.rule 4 a.k l.loop.i (omega arith) (omega arith) wrong) ∙ l.loop.invariant.1)
+    let wrong = sym (ap (right a.rule l.loop-i.i) c.before.before.number.ensures) ∙ sym c.before.right.ensures ∙ c.if-not-right.true in
+    sym (numbers_wrong a.file.now l.loop-i.here a.rule 4 a.k l.loop-i.i (omega arith) (omega arith) wrong) ∙ l.loop-i.invariant.1)
     (λ c. search rules)
     (λ c. search rules)
     (λ c. search rules)
     (λ c. let l = c.before.before.before.before.before in let a = l.before.before.args in
-    let fine = sym (ap (right a.rule l.loop.i) c.before.before.number.ensures) ∙ sym c.before.right.ensures ∙ not-false _ c.if2.false in
-    (omega arith, numbers_more a.file.now l.loop.here a.rule 4 a.k l.loop.i (omega arith) (omega arith) fine ∙ l.loop.invariant.1))
+    let fine = sym (ap (right a.rule l.loop-i.i) c.before.before.number.ensures) ∙ sym c.before.right.ensures ∙ c.if-not-right.false in
+    (omega arith, numbers_more a.file.now l.loop-i.here a.rule 4 a.k l.loop-i.i (omega arith) (omega arith) fine ∙ l.loop-i.invariant.1))
     (λ c. let l = c.before in let a = l.before.before.args in
-    sym (numbers_done a.file.now l.loop.here a.rule 4 a.k l.loop.i (omega arith)) ∙ l.loop.invariant.1))
+    sym (numbers_done a.file.now l.loop-i.here a.rule 4 a.k l.loop-i.i (omega arith)) ∙ l.loop-i.invariant.1))

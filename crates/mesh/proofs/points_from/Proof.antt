@@ -12,34 +12,23 @@ use Rattle.mesh.proofs.points_from.Tie as tie
 pub points_from_spec : {M : Type 1} → statement M
 unfolding points_from
 points_from_spec = tie.close (tie.spec
-    (λ c. search rules)
     (λ c κs. tt)
     (λ c. search rules)
     (λ c. search rules)
-    (λ c. stop c.before.before.same.ensures _ _ c.enum_told.given.1)
+    (λ c. stop c.same-first.ensures _ _ c.in_default.is)
     (λ c κs. tt)
     (λ c. search rules)
     (λ c. search rules)
-    (λ c. let title = c.before.before in let first = title.before.before in
-    go_on first.before.before.same.ensures _ _ _ first.first.given.1 (stop title.title.ensures _ _ c.enum-told2.given.1))
-    (λ c. search rules)
+    (λ c. go_on c.same-first.ensures _ _ _ c.in-Next.is (stop c.title-second.ensures _ _ c.in_default-second.is))
     (λ c κs. tt)
     (λ c. search rules)
     (λ c. search rules)
-    (λ c. let binary = c.before.before in let second = binary.before.before.before in let title = second.before.before in let first = title.before.before in
-    go_on first.before.before.same.ensures _ _ _ first.first.given.1 (go_on title.title.ensures _ _ _ second.second.given.1
-    (stop binary.same2.ensures _ _ c.enum-told3.given.1)))
-    (λ c. search rules)
+    (λ c. go_on c.same-first.ensures _ _ _ c.in-Next.is (go_on c.title-second.ensures _ _ _ c.in-Next-second.is (stop c.same-third.ensures _ _ c.in_default-third.is)))
     (λ c κs. tt)
     (λ c. search rules)
     (λ c. search rules)
-    (λ c. let dataset = c.before.before in let third = dataset.before.before.before in let binary = third.before.before in
-    let second = binary.before.before.before in let title = second.before.before in let first = title.before.before in
-    go_on first.before.before.same.ensures _ _ _ first.first.given.1 (go_on title.title.ensures _ _ _ second.second.given.1
-    (go_on binary.same2.ensures _ _ _ third.third.given.1 (stop dataset.same3.ensures _ _ c.enum-told4.given.1))))
-    (λ c κs. let fourth = c.before in let dataset = fourth.before.before in
-    line_within _ dataset_line 0 _ _ _ (omega arith) (sym dataset.same3.ensures ∙ fourth.fourth.given.1))
-    (λ c. let fourth = c.before.before in let dataset = fourth.before.before in let third = dataset.before.before.before in let binary = third.before.before in
-    let second = binary.before.before.before in let title = second.before.before in let first = title.before.before in
-    go_on first.before.before.same.ensures _ _ _ first.first.given.1 (go_on title.title.ensures _ _ _ second.second.given.1
-    (go_on binary.same2.ensures _ _ _ third.third.given.1 (go_on dataset.same3.ensures _ _ _ fourth.fourth.given.1 c.points_count.ensures)))))
+    (λ c. go_on c.same-first.ensures _ _ _ c.in-Next.is (go_on c.title-second.ensures _ _ _ c.in-Next-second.is
+    (go_on c.same-third.ensures _ _ _ c.in-Next-third.is (stop c.same-fourth.ensures _ _ c.in_default-fourth.is))))
+    (λ c κs. line_within _ dataset_line 0 _ _ _ (omega arith) (sym c.same-fourth.ensures ∙ c.in-Next-fourth.is))
+    (λ c. go_on c.same-first.ensures _ _ _ c.in-Next.is (go_on c.title-second.ensures _ _ _ c.in-Next-second.is
+    (go_on c.same-third.ensures _ _ _ c.in-Next-third.is (go_on c.same-fourth.ensures _ _ _ c.in-Next-fourth.is c.points_count.ensures)))))

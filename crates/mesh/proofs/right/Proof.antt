@@ -27,6 +27,6 @@ pub right_spec : {M : Type 1} → statement M
 right_spec = tie.close (tie.spec
     (λ c. search rules)
     (λ c. search rules)
-    (λ c. three _ _ _ _ c.before.before.rule.given.1 c.if1.true)
-    (λ c. name _ _ _ _ c.before.before.rule.given.1 c.if1.false)
-    (λ c. five _ _ _ c.enum_told.given.1))
+    (λ c. three _ _ _ _ c.in-Cell.is c.if-i-eq0.true)
+    (λ c. name _ _ _ _ c.in-Cell.is c.if-i-eq0.false)
+    (λ c. five _ _ _ c.in-Five.is))

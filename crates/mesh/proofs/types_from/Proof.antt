@@ -15,9 +15,7 @@ types_from_spec = tie.close (tie.spec
     (λ c κs. tt)
     (λ c. search rules)
     (λ c. search rules)
-    (λ c. let close = c.before.before in stop (closed_of _ close.closed.ensures close.before.numbers.ensures) _ _ c.enum_told.given.1)
+    (λ c. stop (closed_of _ c.closed-cells.ensures c.numbers.ensures) _ _ c.in_default.is)
     (λ c κs. tt)
     (λ c κs. fits c.types_line.ensures (types_short _))
-    (λ c. let made = c.before in let known = made.before.before in let close = known.before.before in
-    go_on (closed_of _ close.closed.ensures close.before.numbers.ensures) _ _ _ known.cells.given.1
-    (rw made.types_line.ensures.says at c.same_line.ensures)))
+    (λ c. go_on (closed_of _ c.closed-cells.ensures c.numbers.ensures) _ _ _ c.in-Next.is (rw c.types_line.ensures.says at c.same_line.ensures)))
