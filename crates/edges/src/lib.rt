@@ -1,5 +1,7 @@
 // What the strains, StVK and the plate begin with (stvk_tri3.rs, mitc_tri3.rs: gd, gu): the edges from corner 0 of a triangle as covariant vectors, and numbers made of them.
 // An index 0, 1, 2 of the sources is x, y, z here: gd[0][1] is gd.x.y.
+#![tactic(auto)]
+
 ghost use Rattle.std.specs.Prelude.{◌≡◌};
 ghost use Rattle.std.specs.Float.{binary64};
 ghost use Rattle.edges.specs.Edges.{plane_of, space_of, glstrain_of, gu_gu_of};
@@ -10,21 +12,21 @@ use del_geo_core::tri3::Tri3;
 use vec3::{Divided, V3};
 
 // Two covariant vectors: the edges from corner 0 to corners 1 and 2.
-#[derive(Drop)]
+#[derive(Clone, Copy)]
 pub struct Gd {
     pub x: V3,
     pub y: V3,
 }
 
 // Two contravariant vectors, each with what divided it.
-#[derive(Drop)]
+#[derive(Clone, Copy)]
 pub struct Gu {
     pub x: Divided,
     pub y: Divided,
 }
 
 // The dots of the plate's contravariant vectors.
-#[derive(Drop)]
+#[derive(Clone, Copy)]
 pub struct GuGu {
     pub rr: f64,
     pub ss: f64,

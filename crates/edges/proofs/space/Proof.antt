@@ -7,4 +7,4 @@ pub space_spec : {M : Type 1} → statement M
 unfolding space_of
 space_spec = tie.close (tie.spec (λ c κs. tt) (λ c κs. tt)
     (λ c. let sub = c.before in
-    rw (c.sub2.ensures, sub.sub.ensures)))
+    rw (c.sub-y.ensures, sub.sub-x.ensures)))
