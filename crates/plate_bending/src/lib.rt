@@ -1,4 +1,6 @@
 // The first block of `w_dw_ddw_plate_bending`: bending, though the source heads it transverse shear. Strain and stress are in the order rr, ss, rs.
+#![tactic(auto)]
+
 ghost use Rattle.std.specs.Prelude.{◌≡◌};
 ghost use Rattle.std.specs.Float.{binary64};
 ghost use Rattle.float.specs.Lists.{◌!◌};
@@ -11,7 +13,7 @@ use edges::GuGu;
 use vec3::V3;
 
 // What the block has before its loop; de_dt is de_rr_dt, de_ss_dt, de_rs_dt.
-#[derive(Drop)]
+#[derive(Clone, Copy)]
 pub struct Bending {
     pub w_integration: f64,
     pub coeffb: Matrix3,
