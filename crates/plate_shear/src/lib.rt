@@ -1,4 +1,6 @@
 // The second block of `w_dw_ddw_plate_bending`: transverse shear. Strain and stress are in the order rt, st.
+#![tactic(auto)]
+
 ghost use Rattle.std.specs.Prelude.{◌≡◌};
 ghost use Rattle.std.specs.Float.{binary64};
 ghost use Rattle.plate_shear.specs.Shear.{coeffa_of, coeffb_of, shear_of, strain_of, stress_of, de_rt_01_of, de_st_20_of, dcoeff_e_rt_of, dstrain_of, w_of, dw_of, ddw_of};
@@ -9,14 +11,14 @@ use del_geo_core::tri3::Tri3;
 use edges::GuGu;
 
 // Two rows.
-#[derive(Drop)]
+#[derive(Clone, Copy)]
 pub struct Matrix2 {
     pub x: V2,
     pub y: V2,
 }
 
 // What the block has before its loop.
-#[derive(Drop)]
+#[derive(Clone, Copy)]
 pub struct Shear {
     pub w_integration: f64,
     pub coeffb: Matrix2,

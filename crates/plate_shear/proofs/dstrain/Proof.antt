@@ -48,8 +48,8 @@ dstrain_spec = tie.close (tie.spec
     (λ c. omega arith)
     (λ c. omega arith)
     (λ c. omega arith)
-    (λ c. let n = c.before.loop in (omega arith, rw (add-one, n.invariant.1)))
-    (λ c. let n = c.before.loop in
+    (λ c. let n = c.before.loop-i in (omega arith, rw (add-one, n.invariant.1)))
+    (λ c. let n = c.before.loop-i in
     let c3 = c.before.before in let c2 = c3.before in
     let e : n.i ≡ 9 = omega arith in
-    rw (n.invariant.1, e, c3.dcoeff_e_rt.ensures, c2.de_st_20.ensures, c2.before.de_rt_01.ensures)))
+    rw (n.invariant.1, e, c3.dcoeff_e_rt-dcoeff_e_rt.ensures, c2.de_st_20-de_st_20.ensures, c2.before.de_rt_01-de_rt_01.ensures)))

@@ -8,4 +8,4 @@ unfolding shear_of
 shear_of_spec = tie.close (tie.spec (λ c κs. tt) (λ c κs. tt)
     (λ c.
     let c2 = c.before.before.before.before.before.before.before.before.before.before.before.before.before.before.before.before.before.before.before.before in
-    rw (c2.coeffb.ensures, c2.before.coeffa.ensures)))
+    rw (c2.coeffb-coeffb.ensures, c2.before.coeffa.ensures)))
