@@ -11,4 +11,4 @@ corners_spec = tie.close (tie.spec
     (λ c κs. tt)
     (λ c. omega arith)
     (λ c κs. tt)
-    (λ c. rw (c.point3.ensures, c.before.before.point2.ensures, c.before.before.before.before.point.ensures)))
+    (λ c. rw (c.point-p2.ensures, c.before.before.point-p1.ensures, c.before.before.before.before.point-p0.ensures)))

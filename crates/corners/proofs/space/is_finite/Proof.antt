@@ -9,4 +9,4 @@ is_finite_spec = tie.close (tie.spec
     (λ c κs. tt)
     (λ c κs. tt)
     (λ c κs. tt)
-    (λ c. rw (c.point_finite3.ensures, c.before.point_finite2.ensures, c.before.before.point_finite.ensures)))
+    (λ c. rw (c.point_finite-3.ensures, c.before.point_finite-2.ensures, c.before.before.point_finite.ensures)))

@@ -7,4 +7,4 @@ point_finite_spec = tie.close (tie.spec
     (λ c κs. tt)
     (λ c κs. tt)
     (λ c κs. tt)
-    (λ c. rw (c.is_finite3.ensures, c.before.is_finite2.ensures, c.before.before.is_finite.ensures)))
+    (λ c. rw (c.is_finite-3.ensures, c.before.is_finite-2.ensures, c.before.before.is_finite.ensures)))
