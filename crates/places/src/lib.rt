@@ -1,4 +1,6 @@
 // A flat list that keeps three numbers for each vertex of a panel or a skin, those of vertex i at i * 3, i * 3 + 1 and i * 3 + 2: what a triangle gives its vertices is added to it.
+#![tactic(auto)]
+
 ghost use Rattle.std.specs.Prelude.{◌≡◌, ◌+◌, ◌*◌, ◌<◌, length};
 ghost use Rattle.std.specs.Float.{binary64};
 ghost use Rattle.places.specs.Places.{add_at, add_vertex, added_of};

@@ -22,12 +22,12 @@ pub add_triangle_spec : {M : Type 1} → statement M
 unfolding add_triangle added_of
 add_triangle_spec = tie.close (tie.spec
     (λ c κs. let test = c.before in let a = test.before.before.args in
-    omega (arith, (passed a.i0 a.i1 a.i2 (length a.values.now / 3) test.if1.true).0))
+    omega (arith, (passed a.i0 a.i1 a.i2 (length a.values.now / 3) test.if-i0-vertices.true).0))
     (λ c κs. let test = c.before.before.before.before.before in let a = test.before.before.args in
-    omega (arith, (passed a.i0 a.i1 a.i2 (length a.values.now / 3) test.if1.true).1))
+    omega (arith, (passed a.i0 a.i1 a.i2 (length a.values.now / 3) test.if-i0-vertices.true).1))
     (λ c κs. let test = c.before.before.before.before.before.before.before.before.before in let a = test.before.before.args in
-    omega (arith, (passed a.i0 a.i1 a.i2 (length a.values.now / 3) test.if1.true).2))
+    omega (arith, (passed a.i0 a.i1 a.i2 (length a.values.now / 3) test.if-i0-vertices.true).2))
     (λ c. search rules)
     (λ c. let third = c.before.before in let second = third.before.before.before.before in let first = second.before.before.before.before in
-    rw (first.before.before.if1.true, third.add_vertex3.ensures, second.add_vertex2.ensures, first.add_vertex.ensures))
-    (λ c. rw c.if1.false))
+    rw (first.before.before.if-i0-vertices.true, third.add_vertex-then-i0-vertices-2.ensures, second.add_vertex-then-i0-vertices.ensures, first.add_vertex.ensures))
+    (λ c. rw c.if-i0-vertices.false))

@@ -17,4 +17,4 @@ add_vertex_spec = tie.close (tie.spec
     (λ c κs. search rules)
     (λ c. search rules)
     (λ c. let third = c.before.before in let second = third.before.before.before.before in let first = second.before.before.before.before in
-    rw (third.add_at3.ensures, second.add_at2.ensures, first.add_at.ensures)))
+    rw (third.add_at-3.ensures, second.add_at-2.ensures, first.add_at.ensures)))
