@@ -1,4 +1,6 @@
 // What a plate triangle gives each of its vertices (mitc_tri3.rs, `mass_lumped_plate_bending`): numbers alone, nothing is refused.
+#![tactic(auto)]
+
 ghost use Rattle.std.specs.Prelude.{◌≡◌};
 ghost use Rattle.std.specs.Float.{binary64};
 ghost use Rattle.masses.specs.Masses.{mass_of};

@@ -5,4 +5,4 @@ use Rattle.masses.proofs.mass.Tie as tie
 
 pub mass_spec : {M : Type 1} → statement M
 unfolding mass_of
-mass_spec = tie.close (tie.spec (λ c κs. tt) (λ c. rw c.area.ensures))
+mass_spec = tie.close (tie.spec (λ c κs. tt) (λ c. rw c.area-a012.ensures))
