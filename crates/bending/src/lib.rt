@@ -1,4 +1,6 @@
 // The numbers of `wdw` (quadratic_bending.rs): how far two triangles that share an edge bend about it, by the deformed corners and a factor for each that the rest corners give.
+#![tactic(auto)]
+
 ghost use Rattle.std.specs.Prelude.{◌≡◌};
 ghost use Rattle.std.specs.Float.{binary64};
 ghost use Rattle.float.specs.Ops.{ops};
@@ -9,7 +11,7 @@ use del_geo_core::{edge, tri3};
 use vec3::V3;
 
 // The shared edge runs from corner 2 to corner 3; corners 0 and 1 stand across it.
-#[derive(Drop)]
+#[derive(Clone, Copy)]
 pub struct Fold {
     pub p0: V3,
     pub p1: V3,
@@ -18,7 +20,7 @@ pub struct Fold {
 }
 
 // Every number that divides: `root_len` is root(area0 + area1) * len.
-#[derive(Drop)]
+#[derive(Clone, Copy)]
 pub struct Divisors {
     pub len: f64,
     pub h0: f64,

@@ -33,9 +33,9 @@ dwdp_spec = tie.close (tie.spec
     (λ c. omega arith)
     (λ c. omega arith)
     (λ c. omega arith)
-    (λ c. let m = c.before.loop2 in (omega arith, run_more (place _) _ _ m.node refl refl m.invariant.1))
+    (λ c. let m = c.before.loop-node in (omega arith, run_more (place _) _ _ m.node refl refl m.invariant.1))
     (λ c. omega arith)
     (λ c. omega arith)
-    (λ c. let n = c.before.before.before.loop in let m = c.before.loop2 in
-    (omega arith, rows_more place _ 4 _ n.i_dim m.node (omega arith) n.invariant.1 m.invariant.1))
-    (λ c. let n = c.before.loop in let e : n.i_dim ≡ 3 = omega arith in rw e at n.invariant.1))
+    (λ c. let n = c.before.before.before.loop-i_dim in let m = c.before.loop-node in
+    (omega arith, rows_more place (λ i j. c.args.k ! j) 4 _ n.i_dim m.node (omega arith) n.invariant.1 m.invariant.1))
+    (λ c. let n = c.before.loop-i_dim in let e : n.i_dim ≡ 3 = omega arith in rw e at n.invariant.1))
