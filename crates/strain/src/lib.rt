@@ -1,5 +1,7 @@
 // The numbers of `wdw` (stvk_tri3.rs) and of `wdw_green_lagrange`: strains of a triangle in the sheet's own axes, and their derivatives. The two differ in what is made of the rest triangle.
 // The source's gd0_x, gu0_x and gugu0_xx are gd0.x, gu0.x and gugu0.xx here, and an index 0, 1, 2 is x, y, z.
+#![tactic(auto)]
+
 ghost use Rattle.std.specs.Prelude.{◌≡◌};
 ghost use Rattle.std.specs.Float.{binary64};
 ghost use Rattle.strain.specs.Strain.{rest_of, rest_of_green_lagrange, gugu0_of, w_of, hoge_of, dw_k_of, dw_of, values_of};
@@ -11,7 +13,7 @@ use edges::{Gd, Gu};
 use vec3::{Divided, V3};
 
 // The rest triangle: its edges, its unit normal with what divided it, and two contravariant vectors, 1 long as `rest_of` makes them and 1 / height as `rest_of_green_lagrange` does.
-#[derive(Drop)]
+#[derive(Clone, Copy)]
 pub struct Rest {
     pub gd0: Gd,
     pub gd0_z: Divided,
@@ -19,7 +21,7 @@ pub struct Rest {
 }
 
 // Products of contravariant components.
-#[derive(Drop)]
+#[derive(Clone, Copy)]
 pub struct GuGu {
     pub xx: V3,
     pub yy: V3,

@@ -7,4 +7,4 @@ pub dw_k_spec : {M : Type 1} → statement M
 unfolding dw_k_of
 dw_k_spec = tie.close (tie.spec (λ c κs. tt) (λ c κs. tt) (λ c κs. tt)
     (λ c. let hoge2 = c.before in let hoge = hoge2.before in
-    rw (c.hoge3.ensures, hoge2.hoge2.ensures, hoge.hoge.ensures)))
+    rw (c.hoge-p2.ensures, hoge2.hoge-p1.ensures, hoge.hoge-p0.ensures)))

@@ -8,5 +8,5 @@ unfolding rest_of
 rest_of_spec = tie.close (tie.spec (λ c κs. tt) (λ c κs. tt) (λ c κs. tt) (λ c κs. tt) (λ c κs. tt) (λ c κs. tt) (λ c κs. tt) (λ c κs. tt)
     (λ c. let cross3 = c.before in let unit = cross3.before in let cross2 = unit.before in let over = cross2.before in let norm = over.before in
     let cross = norm.before in let plane = cross.before in
-    rw (c.unit2.ensures, cross3.cross3.ensures, unit.unit.ensures, cross2.cross2.ensures, over.over.ensures, norm.norm.ensures)
-    (rw (cross.cross.ensures, plane.plane.ensures))))
+    rw (c.unit-y.ensures, cross3.cross-2.ensures, unit.unit-x.ensures, cross2.cross.ensures, over.over-gd0_z.ensures, norm.norm-area0.ensures)
+    (rw (cross.cross-gd0_z.ensures, plane.plane-gd0.ensures))))

@@ -8,5 +8,5 @@ unfolding values_of
 values_of_spec = tie.close (tie.spec (λ c κs. tt) (λ c κs. tt) (λ c κs. tt) (λ c κs. tt) (λ c κs. tt) (λ c κs. tt) (λ c κs. tt) (λ c κs. tt)
     (λ c. let dw-k3 = c.before in let dw-k2 = dw-k3.before in let dw-k = dw-k2.before in let w = dw-k.before in let gugu0 = w.before in let glstrain = gugu0.before in
     let space = glstrain.before in
-    rw (c.dw.ensures, dw-k3.dw_k3.ensures, dw-k2.dw_k2.ensures, dw-k.dw_k.ensures, w.w.ensures, gugu0.gugu0.ensures, glstrain.glstrain.ensures)
-    (rw space.space.ensures)))
+    rw (c.dw-dw.ensures, dw-k3.dw_k-3.ensures, dw-k2.dw_k-2.ensures, dw-k.dw_k.ensures, w.w-w.ensures, gugu0.gugu0-gugu0.ensures, glstrain.glstrain-glstrain.ensures)
+    (rw space.space-gd1.ensures)))

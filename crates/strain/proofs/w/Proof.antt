@@ -7,4 +7,4 @@ pub w_spec : {M : Type 1} → statement M
 unfolding w_of
 w_spec = tie.close (tie.spec (λ c κs. tt) (λ c κs. tt) (λ c κs. tt)
     (λ c. let dot2 = c.before in let dot = dot2.before in
-    rw (c.dot3.ensures, dot2.dot2.ensures, dot.dot.ensures)))
+    rw (c.dot-3.ensures, dot2.dot-2.ensures, dot.dot.ensures)))
