@@ -1,4 +1,6 @@
 // The numbers of `wdwddw_` (stvk_tri3.rs): a triangle's StVK energy, its gradient and its Hessian. An index 0, 1, 2 of the source is x, y, z here.
+#![tactic(auto)]
+
 ghost use Rattle.std.specs.Prelude.{◌≡◌, ◌++◌};
 ghost use Rattle.std.specs.Float.{binary64};
 ghost use Rattle.float.specs.Lists.{each};
@@ -15,7 +17,7 @@ use edges::{Gd, Gu};
 use vec3::{Divided, V3};
 
 // Of the rest corners: gd0[0] and gd0[1]; gd0[2], with what divided it; area0; gu0.
-#[derive(Drop)]
+#[derive(Clone, Copy)]
 pub struct Rest {
     pub gd0: Gd,
     pub gd0_z: Divided,
@@ -24,7 +26,7 @@ pub struct Rest {
 }
 
 // What the energy and its derivatives are made of.
-#[derive(Drop)]
+#[derive(Clone, Copy)]
 pub struct State {
     pub rest: Rest,
     pub gd: Gd,
@@ -34,7 +36,7 @@ pub struct State {
 }
 
 // A pair for each of three indices.
-#[derive(Drop)]
+#[derive(Clone, Copy)]
 pub(crate) struct Pairs {
     pub x: V2,
     pub y: V2,
@@ -42,7 +44,7 @@ pub(crate) struct Pairs {
 }
 
 // The terms of dtmp0 in the source's order, each without its last factor: that alone depends on jno.
-#[derive(Drop)]
+#[derive(Clone, Copy)]
 pub(crate) struct Terms {
     pub t0: f64,
     pub t1: f64,
@@ -162,6 +164,7 @@ fn dndr() -> Pairs
     Pairs { x, y, z }
 }
 
+#[tactic(auto, unfolding(crate::specs::Stvk::at_of))]
 fn at(pairs: Pairs, i: usize) -> V2
     ensures { result ≡ at_of pairs i }
 {

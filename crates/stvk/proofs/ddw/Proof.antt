@@ -43,14 +43,14 @@ ddw_spec = tie.close (tie.spec
     (λ c. omega arith)
     (λ c. omega arith)
     (λ c. omega arith)
-    (λ c. let m = c.before.loop2 in
+    (λ c. let m = c.before.loop-k in
     let d = c.before.before in let i = d.before in let n = i.before.before.before in
-    (omega arith, run_more (at _) (entry _ _) _ m.k refl (rw (d.ddw_of_corner.ensures, i.at.ensures, n.dndr.ensures, n.before.along.ensures)) m.invariant.1))
+    (omega arith, run_more (at _) (entry _ _) _ m.k refl (rw (d.ddw_of_corner-d.ensures, i.at.ensures, n.dndr-n.ensures, n.before.along-g.ensures)) m.invariant.1))
     (λ c. omega arith)
     (λ c. omega arith)
-    (λ c. let n = c.before.before.before.before.before.loop in
-    let m = c.before.loop2 in
-    (omega arith, rows_more at _ 27 _ n.ino m.k (omega arith) n.invariant.1 m.invariant.1))
-    (λ c. let n = c.before.loop in
+    (λ c. let n = c.before.before.before.before.before.loop-ino in
+    let m = c.before.loop-k in
+    (omega arith, rows_more at (entry c.args.s) 27 _ n.ino m.k (omega arith) n.invariant.1 m.invariant.1))
+    (λ c. let n = c.before.loop-ino in
     let e : n.ino ≡ 3 = omega arith in
     (rw e at n.invariant.1) ∙ filled _))

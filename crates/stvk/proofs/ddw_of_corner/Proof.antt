@@ -19,11 +19,11 @@ ddw_of_corner_spec = tie.close (tie.spec
     (λ c. let d3 = c.before in let d2 = d3.before in let d1 = d2.before in let z = d1.before in let y = z.before in let x = y.before in
     rw (
       c.three_blocks.ensures,
-      d3.dw_at3.ensures,
-      d2.dw_at2.ensures,
+      d3.dw_at-3.ensures,
+      d2.dw_at-2.ensures,
       d1.dw_at.ensures,
-      z.rows3.ensures,
-      y.rows2.ensures,
-      x.rows.ensures,
-      x.before.dndr.ensures,
+      z.rows-z.ensures,
+      y.rows-y.ensures,
+      x.rows-x.ensures,
+      x.before.dndr-n.ensures,
     )))

@@ -40,14 +40,14 @@ dw_spec = tie.close (tie.spec
     (λ c. omega arith)
     (λ c. let m = c.before.before.before.before in let n = m.before.before.before in (
       omega arith,
-      run_more (at _) _ _ m.loop2.idim refl
-          (rw (c.dw_at.ensures, c.before.at2.ensures, c.before.before.at.ensures, n.dndr.ensures, n.before.along.ensures)) m.loop2.invariant.1,
+      run_more (at _) _ _ m.loop-idim.idim refl
+          (rw (c.dw_at.ensures, c.before.at-in-loop-idim.ensures, c.before.before.at.ensures, n.dndr-n.ensures, n.before.along-g.ensures)) m.loop-idim.invariant.1,
     ))
     (λ c. omega arith)
     (λ c. omega arith)
-    (λ c. let n = c.before.before.before.loop in
-    let m = c.before.loop2 in
-    (omega arith, rows_more at _ 3 _ n.ino m.idim (omega arith) n.invariant.1 m.invariant.1))
-    (λ c. let n = c.before.loop in
+    (λ c. let n = c.before.before.before.loop-ino in
+    let m = c.before.loop-idim in
+    (omega arith, rows_more at (entry c.args.s) 3 _ n.ino m.idim (omega arith) n.invariant.1 m.invariant.1))
+    (λ c. let n = c.before.loop-ino in
     let e : n.ino ≡ 3 = omega arith in
     rw e at n.invariant.1))

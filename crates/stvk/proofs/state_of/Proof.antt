@@ -8,5 +8,5 @@ unfolding glstrain_of gugu0_of state_of
 state_of_spec = tie.close (tie.spec (λ c κs. tt) (λ c κs. tt) (λ c κs. tt) (λ c κs. tt) (λ c κs. tt) (λ c κs. tt) (λ c κs. tt) (λ c κs. tt)
     (λ c. let elasticity-tensor = c.before in let dot3 = elasticity-tensor.before in let dot2 = dot3.before in let dot = dot2.before in
     let glstrain = dot.before.before.before in let space = glstrain.before in let rest_of_lem = space.before in
-    rw (c.mult_vec.ensures, elasticity-tensor.elasticity_tensor.ensures, dot3.dot3.ensures, dot2.dot2.ensures, dot.dot.ensures)
-    (rw (glstrain.glstrain.ensures, space.space.ensures, rest_of_lem.rest_of.ensures))))
+    rw (c.mult_vec-spkstress.ensures, elasticity-tensor.elasticity_tensor-tensor.ensures, dot3.dot-3.ensures, dot2.dot-2.ensures, dot.dot.ensures)
+    (rw (glstrain.glstrain-e.ensures, space.space-gd.ensures, rest_of_lem.rest_of-rest.ensures))))
