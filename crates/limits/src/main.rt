@@ -1,10 +1,12 @@
 // The limits of masses (01-scope 2.3) and of a skin (2.5), each at it and one past it, at full size. A line for each panel: how many coordinates, names and places of the buffer
 // there are, and the last name; then the number that is given, and the bits of the sum of the buffer's places on return. For a skin the numbers at rest and the deformed ones
 // are counted, and between number and sum stand the place and the bits of the energy.
+#![tactic(auto)]
+
 ghost use Rattle.std.specs.Prelude.{◌+◌, ◌≤◌, ◌<◌, length};
 
-use libc::STDOUT_FILENO;
 use material::Material;
+use std::io;
 
 #[derive(Drop)]
 enum Routine {
@@ -45,52 +47,60 @@ fn sum(xs: &[f64]) -> f64 {
     sum
 }
 
-fn put(n: u64) {
-    io::print_decimal(STDOUT_FILENO, n);
-    io::write_all(STDOUT_FILENO, b" ");
+fn put(rt: &impl Print, n: u64) -> io::Result<()> {
+    print!(rt; "{n} ")
 }
 
-fn put_bits(x: f64) {
-    io::print_hex(STDOUT_FILENO, float::to_word(x), 16);
+fn put_bits(rt: &impl Print, x: f64) -> io::Result<()> {
+    let w = float::to_word(x);
+    print!(rt; "{w:016x}")
 }
 
-fn masses(vtx2xy: &[f64], tri2vtx: &[usize], vtx2mass: &mut [f64], last: usize) {
+fn masses(
+    rt: &impl Print,
+    vtx2xy: &[f64],
+    tri2vtx: &[usize],
+    vtx2mass: &mut [f64],
+    last: usize,
+) -> io::Result<()> {
     let material = Material::lame(2.0, 1.0, 0.0, 0.0);
     let number = mitc_tri3::mass_lumped_plate_bending(tri2vtx, vtx2xy, material, vtx2mass);
-    put(vtx2xy.len() as u64);
-    put(tri2vtx.len() as u64);
-    put(vtx2mass.len() as u64);
-    put(last as u64);
-    put(number as u64);
-    put_bits(sum(vtx2mass));
-    io::write_all(STDOUT_FILENO, b"\n");
+    put(rt, vtx2xy.len() as u64)?;
+    put(rt, tri2vtx.len() as u64)?;
+    put(rt, vtx2mass.len() as u64)?;
+    put(rt, last as u64)?;
+    put(rt, number as u64)?;
+    put_bits(rt, sum(vtx2mass))?;
+    println!(rt)
 }
 
 fn whole_skin(
+    rt: &impl Print,
     vtx2ini: &[f64],
     vtx2def: &[f64],
     tri2vtx: &[usize],
     vtx2dw: &mut [f64],
     last: usize,
-) {
+) -> io::Result<()> {
     let material = Material::lame(0.0, 0.0, 1.0, 2.0);
     let answer = skin::wdw(vtx2ini, vtx2def, tri2vtx, material, vtx2dw);
-    put(vtx2ini.len() as u64);
-    put(vtx2def.len() as u64);
-    put(tri2vtx.len() as u64);
-    put(vtx2dw.len() as u64);
-    put(last as u64);
-    put(answer.number as u64);
-    put(answer.place as u64);
-    put_bits(answer.w);
-    io::write_all(STDOUT_FILENO, b" ");
-    put_bits(sum(vtx2dw));
-    io::write_all(STDOUT_FILENO, b"\n");
+    put(rt, vtx2ini.len() as u64)?;
+    put(rt, vtx2def.len() as u64)?;
+    put(rt, tri2vtx.len() as u64)?;
+    put(rt, vtx2dw.len() as u64)?;
+    put(rt, last as u64)?;
+    put(rt, answer.number as u64)?;
+    put(rt, answer.place as u64)?;
+    put_bits(rt, answer.w)?;
+    print!(rt; " ")?;
+    put_bits(rt, sum(vtx2dw))?;
+    println!(rt)
 }
 
 // The points' numbers are the squares of 0, 1, 2, ..: so no three vertices are in line, whether each has two of them or three. A vertex is deformed to where the next one is at
 // rest, so that one list holds both. The buffer holds sevens on entry.
 fn answer(
+    rt: &impl Print,
     routine: Routine,
     points: &mut [f64],
     ini: usize,
@@ -98,7 +108,7 @@ fn answer(
     tri2vtx: &mut [usize],
     buffer: &mut [f64],
     last: usize,
-)
+) -> io::Result<()>
     requires ini_in_bounds { ini ≤ length points.old }
     requires def_in_bounds { def + 3 ≤ length points.old }
     requires tri2vtx_nonzero { 0 < length tri2vtx.old }
@@ -109,8 +119,15 @@ fn answer(
     let end = tri2vtx.len() - 1;
     tri2vtx[end] = last;
     match routine {
-        Routine::Masses => masses(&points[0..ini], tri2vtx, buffer, last),
-        Routine::Skin => whole_skin(&points[0..ini], &points[3..def + 3], tri2vtx, buffer, last),
+        Routine::Masses => masses(rt, &points[0..ini], tri2vtx, buffer, last),
+        Routine::Skin => whole_skin(
+            rt,
+            &points[0..ini],
+            &points[3..def + 3],
+            tri2vtx,
+            buffer,
+            last,
+        ),
     }
 }
 
@@ -124,7 +141,15 @@ fn names() -> [usize; 393_219] {
 }
 
 // With so many numbers at rest and deformed (none for masses), names and places of the buffer.
-fn run(routine: Routine, ini: usize, def: usize, t: usize, b: usize, last: usize)
+fn run(
+    rt: &impl Print,
+    routine: Routine,
+    ini: usize,
+    def: usize,
+    t: usize,
+    b: usize,
+    last: usize,
+) -> io::Result<()>
     requires ini_bound { ini ≤ 196614 }
     requires def_bound { def ≤ 196611 }
     requires t_nonzero { 0 < t }
@@ -135,6 +160,7 @@ fn run(routine: Routine, ini: usize, def: usize, t: usize, b: usize, last: usize
     let mut tri2vtx = names();
     let mut buffer = numbers();
     answer(
+        rt,
         routine,
         &mut points,
         ini,
@@ -142,32 +168,48 @@ fn run(routine: Routine, ini: usize, def: usize, t: usize, b: usize, last: usize
         &mut tri2vtx[0..t],
         &mut buffer[0..b],
         last,
-    );
+    )
 }
 
-fn main() {
+fn main(rt: HostRuntime) -> io::Result<()> {
     // At every limit, without and with a left-over number.
-    run(Routine::Masses, 131_072, 0, 393_216, 196_608, 65_535);
-    run(Routine::Masses, 131_073, 0, 393_216, 196_608, 65_535);
+    run(&rt, Routine::Masses, 131_072, 0, 393_216, 196_608, 65_535)?;
+    run(&rt, Routine::Masses, 131_073, 0, 393_216, 196_608, 65_535)?;
     // A vertex more, a triangle more; a name too many, a place too many.
-    run(Routine::Masses, 131_074, 0, 393_216, 196_611, 65_535);
-    run(Routine::Masses, 131_072, 0, 393_219, 196_608, 65_535);
-    run(Routine::Masses, 131_072, 0, 393_217, 196_608, 65_535);
-    run(Routine::Masses, 131_072, 0, 393_216, 196_609, 65_535);
+    run(&rt, Routine::Masses, 131_074, 0, 393_216, 196_611, 65_535)?;
+    run(&rt, Routine::Masses, 131_072, 0, 393_219, 196_608, 65_535)?;
+    run(&rt, Routine::Masses, 131_072, 0, 393_217, 196_608, 65_535)?;
+    run(&rt, Routine::Masses, 131_072, 0, 393_216, 196_609, 65_535)?;
     // The last name one past the last vertex.
-    run(Routine::Masses, 131_072, 0, 393_216, 196_608, 65_536);
+    run(&rt, Routine::Masses, 131_072, 0, 393_216, 196_608, 65_536)?;
     // A skin at every limit; with the last triangle refused, since it names vertex 65,535 twice.
-    run(Routine::Skin, 196_608, 196_608, 393_216, 196_608, 0);
-    run(Routine::Skin, 196_608, 196_608, 393_216, 196_608, 65_535);
+    run(&rt, Routine::Skin, 196_608, 196_608, 393_216, 196_608, 0)?;
+    run(
+        &rt,
+        Routine::Skin,
+        196_608,
+        196_608,
+        393_216,
+        196_608,
+        65_535,
+    )?;
     // A vertex more, a triangle more; a name too many.
-    run(Routine::Skin, 196_611, 196_611, 393_216, 196_611, 0);
-    run(Routine::Skin, 196_608, 196_608, 393_219, 196_608, 0);
-    run(Routine::Skin, 196_608, 196_608, 393_217, 196_608, 0);
+    run(&rt, Routine::Skin, 196_611, 196_611, 393_216, 196_611, 0)?;
+    run(&rt, Routine::Skin, 196_608, 196_608, 393_219, 196_608, 0)?;
+    run(&rt, Routine::Skin, 196_608, 196_608, 393_217, 196_608, 0)?;
     // A number too many at rest, deformed, in the buffer, in all three.
-    run(Routine::Skin, 196_609, 196_608, 393_216, 196_608, 0);
-    run(Routine::Skin, 196_608, 196_609, 393_216, 196_608, 0);
-    run(Routine::Skin, 196_608, 196_608, 393_216, 196_609, 0);
-    run(Routine::Skin, 196_609, 196_609, 393_216, 196_609, 0);
+    run(&rt, Routine::Skin, 196_609, 196_608, 393_216, 196_608, 0)?;
+    run(&rt, Routine::Skin, 196_608, 196_609, 393_216, 196_608, 0)?;
+    run(&rt, Routine::Skin, 196_608, 196_608, 393_216, 196_609, 0)?;
+    run(&rt, Routine::Skin, 196_609, 196_609, 393_216, 196_609, 0)?;
     // The last name one past the last vertex.
-    run(Routine::Skin, 196_608, 196_608, 393_216, 196_608, 65_536);
+    run(
+        &rt,
+        Routine::Skin,
+        196_608,
+        196_608,
+        393_216,
+        196_608,
+        65_536,
+    )
 }

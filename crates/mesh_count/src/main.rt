@@ -1,11 +1,14 @@
 // What a mesh file on standard input is, in one line: 0 and the counts of its points and triangles, 8 and the place of what is wrong first, or 1 where there are more than
 // 65,536 bytes.
+#![tactic(auto)]
+
 ghost use Rattle.std.specs.Prelude.{◌≤◌};
+ghost use Rattle.std.specs.Io.{ReadsAtMost};
 ghost use Rattle.mesh_count.specs.Printed.{IsPrinted};
 
-use libc::{STDIN_FILENO, STDOUT_FILENO};
 use mesh::Mesh;
 use refusal::{ACCEPTED, BAD_FILE, BAD_LENGTH};
+use std::io;
 
 const MAX_BYTES: usize = 65_536;
 
@@ -43,27 +46,43 @@ fn numbers(file: &[u8]) -> Printed
 }
 
 // One space before every number but the first.
-fn print_number(i: usize, x: u64) {
+fn print_number(rt: &impl Print, i: usize, x: u64) -> io::Result<()> {
     if 0 < i {
-        io::write_all(STDOUT_FILENO, b" ");
+        print!(rt; " ")?;
     }
-    io::print_decimal(STDOUT_FILENO, x);
+    print!(rt; "{x}")
 }
 
-fn print(line: Printed)
+fn print(rt: &impl Print, line: Printed) -> io::Result<()>
     requires { line.len ≤ 3 }
 {
     let numbers = line.numbers;
     let len = line.len;
     for i in 0..len {
-        print_number(i, numbers[i]);
+        print_number(rt, i, numbers[i])?;
     }
+    Ok(())
 }
 
-fn main() {
+// Reads until the bytes are full or the input ends, and answers how many were read.
+fn read_full(stdin: &mut impl io::Read, bytes: &mut [u8]) -> io::Result<usize>
+    ensures { ReadsAtMost result bytes.new }
+{
+    let mut done = 0;
+    while done < bytes.len() {
+        let n = stdin.read(&mut bytes[done..])?;
+        if n == 0 {
+            break;
+        }
+        done += n;
+    }
+    Ok(done)
+}
+
+fn main(rt: HostRuntime) -> io::Result<()> {
     // One byte more than the longest file, so that a longer one is told from it.
     let mut file = [0u8; 65_537];
-    let n = io::read_full(STDIN_FILENO, &mut file);
-    print(numbers(&file[..n]));
-    io::write_all(STDOUT_FILENO, b"\n");
+    let n = read_full(&mut rt.stdin(), &mut file)?;
+    print(&rt, numbers(&file[..n]))?;
+    println!(rt)
 }

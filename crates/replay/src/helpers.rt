@@ -4,6 +4,7 @@ ghost use Rattle.std.specs.Prelude.{◌≤◌};
 use crate::{input, output};
 use del_geo_core::tri3::Tri3;
 use del_geo_core::{curve_linear_coords, edge, tri2, tri3};
+use std::io;
 use vec3::V3;
 
 // 0 where the number is no helper's.
@@ -55,28 +56,28 @@ fn vector(helper: u64, x: [f64; 24]) -> V3 {
     }
 }
 
-fn put_unit_normal_area(x: [f64; 24]) {
+fn put_unit_normal_area(rt: &impl Print, x: [f64; 24]) -> io::Result<()> {
     let p = points(x);
     let answer = tri3::unit_normal_area(p.p0, p.p1, p.p2);
-    output::put_v3(answer.normal.v);
-    output::put(answer.area);
+    output::put_v3(rt, answer.normal.v)?;
+    output::put(rt, answer.area)
 }
 
-fn put_inverse(x: [f64; 24]) {
+fn put_inverse(rt: &impl Print, x: [f64; 24]) -> io::Result<()> {
     let p = points(x);
     let answer = curve_linear_coords::inverse(p.p0, p.p1, p.p2);
-    output::put_v3(answer.x.v);
-    output::put_v3(answer.y.v);
-    output::put_v3(answer.z.v);
+    output::put_v3(rt, answer.x.v)?;
+    output::put_v3(rt, answer.y.v)?;
+    output::put_v3(rt, answer.z.v)
 }
 
-pub(crate) fn answer(helper: u64, x: [f64; 24]) {
-    output::start_line(0);
+pub(crate) fn answer(rt: &impl Print, helper: u64, x: [f64; 24]) -> io::Result<()> {
+    output::start_line(rt, 0)?;
     match helper {
-        1 | 5 | 8 | 10 => output::put(number(helper, x)),
-        7 => output::put(plane_area(x)),
-        9 => put_unit_normal_area(x),
-        11 => put_inverse(x),
-        _ => output::put_v3(vector(helper, x)),
+        1 | 5 | 8 | 10 => output::put(rt, number(helper, x)),
+        7 => output::put(rt, plane_area(x)),
+        9 => put_unit_normal_area(rt, x),
+        11 => put_inverse(rt, x),
+        _ => output::put_v3(rt, vector(helper, x)),
     }
 }

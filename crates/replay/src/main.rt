@@ -1,5 +1,7 @@
 // Reads records of big-endian 64-bit words from standard input, runs each through the routine that its first word names, and writes an answer line for each
 // (docs/REPLAY.md). An end of the input between two records ends the run; any other is answered by the line `?` and the end.
+#![tactic(auto)]
+
 ghost use Rattle.std.specs.Prelude.{◌≤◌};
 
 mod helpers;
@@ -7,6 +9,8 @@ mod input;
 mod kernels;
 mod lists;
 mod output;
+
+use std::io;
 
 const ROOT: u64 = 1;
 
@@ -17,89 +21,102 @@ const SKIN: u64 = 7;
 const HELPER: u64 = 9;
 
 // Each of these says whether there was a whole record, and then has written its line.
-fn replay_root() -> bool {
-    let read = input::next_word();
+fn replay_root(rt: &impl Print, stdin: &mut impl io::Read) -> io::Result<bool> {
+    let read = input::next_word(stdin)?;
     if read.ok {
-        output::start_line(0);
-        output::put_word(root::sqrt_word(read.w));
-        output::end_line();
+        output::start_line(rt, 0)?;
+        output::put_word(rt, root::sqrt_word(read.w))?;
+        output::end_line(rt)?;
     }
-    read.ok
+    Ok(read.ok)
 }
 
 // A helper's record, or a kernel's without a material, with so many numbers; none where the count is 0.
-fn replay_numbers(helper: bool, number: u64, count: usize) -> bool
+fn replay_numbers(
+    rt: &impl Print,
+    stdin: &mut impl io::Read,
+    helper: bool,
+    number: u64,
+    count: usize,
+) -> io::Result<bool>
     requires { count ≤ 24 }
 {
     let mut x = [0.0; 24];
-    let known = (0 < count) & input::fill_numbers(&mut x[0..count]);
+    let known = (0 < count) & input::fill_numbers(stdin, &mut x[0..count])?;
     if known {
         if helper {
-            helpers::answer(number, x);
+            helpers::answer(rt, number, x)?;
         } else {
-            kernels::answer(number, x);
+            kernels::answer(rt, number, x)?;
         }
-        output::end_line();
+        output::end_line(rt)?;
     }
-    known
+    Ok(known)
 }
 
 // A record of a kernel that takes a material.
-fn replay_material(kind: u64, count: usize) -> bool
+fn replay_material(
+    rt: &impl Print,
+    stdin: &mut impl io::Read,
+    kind: u64,
+    count: usize,
+) -> io::Result<bool>
     requires { count ≤ 24 }
 {
     let mut x = [0.0; 24];
-    let filled = input::fill_numbers(&mut x[0..count]);
-    let read = input::next_material();
+    let filled = input::fill_numbers(stdin, &mut x[0..count])?;
+    let read = input::next_material(stdin)?;
     let known = filled & read.ok;
     if known {
         let material = read.material;
-        kernels::answer_with(kind, x, material);
-        output::end_line();
+        kernels::answer_with(rt, kind, x, material)?;
+        output::end_line(rt)?;
     }
-    known
+    Ok(known)
 }
 
-fn replay_kernel(kind: u64) -> bool {
+fn replay_kernel(rt: &impl Print, stdin: &mut impl io::Read, kind: u64) -> io::Result<bool> {
     let count = kernels::inputs(kind);
     if kernels::has_material(kind) {
-        return replay_material(kind, count);
+        return replay_material(rt, stdin, kind, count);
     }
-    replay_numbers(false, kind, count)
+    replay_numbers(rt, stdin, false, kind, count)
 }
 
-fn replay_helper() -> bool {
-    let helper = input::next_word();
-    helper.ok && replay_numbers(true, helper.w, helpers::inputs(helper.w))
+fn replay_helper(rt: &impl Print, stdin: &mut impl io::Read) -> io::Result<bool> {
+    let helper = input::next_word(stdin)?;
+    Ok(helper.ok && replay_numbers(rt, stdin, true, helper.w, helpers::inputs(helper.w))?)
 }
 
-fn replay(kind: u64) -> bool {
+fn replay(rt: &impl Print, stdin: &mut impl io::Read, kind: u64) -> io::Result<bool> {
     match kind {
-        ROOT => replay_root(),
-        MASSES => lists::is_answered(false),
-        SKIN => lists::is_answered(true),
-        HELPER => replay_helper(),
-        _ => replay_kernel(kind),
+        ROOT => replay_root(rt, stdin),
+        MASSES => lists::is_answered(rt, stdin, false),
+        SKIN => lists::is_answered(rt, stdin, true),
+        HELPER => replay_helper(rt, stdin),
+        _ => replay_kernel(rt, stdin, kind),
     }
 }
 
 // Whether to go on after a record.
-fn is_answered() -> bool {
-    let kind = input::next_word();
+fn is_answered(rt: &impl Print, stdin: &mut impl io::Read) -> io::Result<bool> {
+    let kind = input::next_word(stdin)?;
     if kind.ended {
-        return false;
+        return Ok(false);
     }
-    let answered = kind.ok && replay(kind.w);
+    let answered = kind.ok && replay(rt, stdin, kind.w)?;
     if !answered {
-        output::unreadable();
+        output::unreadable(rt)?;
     }
-    answered
+    Ok(answered)
 }
 
 // A proved loop ends, and nothing says that the input does: so the records are counted down, from a number that no run uses up.
-fn main() {
+fn main(rt: HostRuntime) -> io::Result<()> {
+    let mut stdin = rt.stdin();
     let mut left = u64::MAX;
-    while left > 0 && is_answered() {
+    while left > 0 && is_answered(&rt, &mut stdin)? {
         left -= 1;
     }
+    Ok(())
 }
