@@ -2,7 +2,7 @@
 use mathlib.Core.Path.{◌≡◌, refl, sym, ◌∙◌, ap}
 use mathlib.Core.List.{List, [], ◌∷◌, ◌++◌}
 use Prim.Native.Nat.{ℕ, zero, suc, ◌+◌, ◌≤◌, ◌<◌, min}
-use native.Mathlib.Nat.{zero-min, min-zero, suc-min-suc, min-eq_left, min-eq_right, min-le_right, zero_add, suc-add, add_assoc}
+use native.Mathlib.Nat.{zero-min, suc-min-suc, zero-add, suc-add}
 use native.Mathlib.Numerals.{add-one}
 use native.Mathlib.Omega.{arith}
 use lib.ListN.{length, set, get_or, take, length-append}
@@ -38,7 +38,7 @@ over_append : (at : ℕ) (w v b : List ℕ) → over_at (min (at + length w) (le
 unfolding over_at
 over_append at w v [] = refl
 over_append (suc at) w v (x ∷ b) = rw (suc-add at (length w), suc-min-suc (at + length w) (length b)) (ap (λ (l : List ℕ). x ∷ l) (over_append at w v b))
-over_append zero [] v (x ∷ b) = rw (zero_add 0, zero-min (suc (length b))) refl
+over_append zero [] v (x ∷ b) = rw (zero-add 0, zero-min (suc (length b))) refl
 over_append zero (c ∷ w) v (x ∷ b) =
     let e : zero + suc (length w) ≡ suc (zero + length w) = omega arith in
     rw (e, suc-min-suc (zero + length w) (length b)) (ap (λ (l : List ℕ). c ∷ l) (over_append zero w v b))

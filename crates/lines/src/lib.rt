@@ -1,3 +1,5 @@
+#![tactic(auto)]
+
 // Lines of text with numbers in them, from a template, into a lent buffer.
 ghost use Rattle.std.specs.Prelude.{◌≡◌, [], ◌∷◌, ◌≤◌, ◌<◌, min, length};
 ghost use Rattle.float.specs.Lists.{◌!◌};

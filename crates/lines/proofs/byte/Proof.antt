@@ -10,5 +10,5 @@ byte_spec = tie.close (tie.spec
     (λ c. search rules)
     (λ c. search rules)
     (λ c. search rules)
-    (λ c. writes_byte _ c.if1.true)
+    (λ c. writes_byte _ c.if-at-out.true)
     (λ c. writes_end _ (omega (arith, c.before.requires))))

@@ -13,4 +13,4 @@ number_at_spec = tie.close (tie.spec
     (λ c. search rules)
     (λ c κs. search rules)
     (λ c. search rules)
-    (λ c. c.of_word.ensures ∙ nan_word_lem binary64 ∙ sym (get_or-eq_default c.before.before.before.args.numbers.now nan c.before.if1.false)))
+    (λ c. c.of_word.ensures ∙ nan_word_lem binary64 ∙ sym (get_or-eq_default c.before.before.before.args.numbers.now nan c.before.if-j-numbers.false)))

@@ -1,5 +1,4 @@
 -- `word` meets its contract: at each turn the bytes so far are written.
-use mathlib.Core.Path.{◌≡◌}
 use Prim.Native.Nat.{◌-◌, ◌≤◌}
 use native.Mathlib.Omega.{arith}
 use lib.ListN.{length, take}
@@ -15,10 +14,10 @@ word_spec = tie.close (tie.spec
     (λ out₀ at w here₀ i₀ i-end out here i. length w - i)
     (λ c. (omega arith, writes_none c.before.before.requires))
     (λ c. omega arith)
-    (λ c κs. within c.before.before.before.loop.invariant.1)
+    (λ c κs. within c.before.before.before.loop-i.invariant.1)
     (λ c. omega arith)
     (λ c. omega arith)
     (λ c. let byte = c.before.before in let l = byte.before.before.before.before in let s = l.before.before.before in
-    (omega arith, next_byte s.args.w.now l.loop.i (omega arith) l.loop.invariant.1 byte.byte.ensures))
-    (λ c. same_length c.before.loop.invariant.1)
-    (λ c. let l = c.before in rw (take_all l.loop.i l.before.before.before.args.w.now (omega arith)) at l.loop.invariant.1))
+    (omega arith, next_byte s.args.w.now l.loop-i.i (omega arith) l.loop-i.invariant.1 byte.byte-here.ensures))
+    (λ c. same_length c.before.loop-i.invariant.1)
+    (λ c. let l = c.before in rw (take_all l.loop-i.i l.before.before.before.args.w.now (omega arith)) at l.loop-i.invariant.1))
