@@ -1,3 +1,5 @@
+#![tactic(auto)]
+
 // Whether single numbers are in the range that demand 3 speaks of (01-scope 6.2).
 ghost use Rattle.std.specs.Prelude.{◌≡◌};
 ghost use Rattle.std.specs.Float.{binary64};

@@ -12,4 +12,4 @@ use Rattle.range.proofs.is_factor.Tie as tie
 pub is_factor_spec : {M : Type 1} → statement M
 unfolding of_bits fits value div
 is_factor_spec = tie.close (tie.spec (λ c. is_factor binary64 largest_factor (2 ^ 1034) _ _ (record { number = record { fit = tt; fine = tt }; is = refl; small = lit≤ tt })
-    (record { number = record { fit = tt; fine = tt }; is = refl; small = lit≤ tt }) (lit< tt) (lit< tt) refl c.args.x (rw c.well-formed.0.1 tt)))
+    (record { number = record { fit = tt; fine = tt }; is = refl; small = lit≤ tt }) (lit< tt) (lit< tt) refl c.args.x (rw c.well_formed.0.1 tt)))

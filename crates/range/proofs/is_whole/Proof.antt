@@ -12,4 +12,4 @@ use Rattle.range.proofs.is_whole.Tie as tie
 pub is_whole_spec : {M : Type 1} → statement M
 unfolding of_bits fits value
 is_whole_spec = tie.close (tie.spec (λ c. is_whole binary64 largest_coordinate (3 * 2 ^ 51) _ _ (record { number = record { fit = tt; fine = tt }; is = refl; small = lit≤ tt })
-    (record { number = record { fit = tt; fine = tt }; is = refl; small = lit≤ tt }) (lit≤ tt) (lit< tt) c.args.x (rw c.well-formed.0.1 tt)))
+    (record { number = record { fit = tt; fine = tt }; is = refl; small = lit≤ tt }) (lit≤ tt) (lit< tt) c.args.x (rw c.well_formed.0.1 tt)))
