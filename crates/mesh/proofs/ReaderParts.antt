@@ -55,7 +55,7 @@ module _ (f : List ℕ) where
   of_line : (t : List ℕ) → Part f (RightLine 0 t) (λ at. line 0 t at (drop at f))
   of_line t = of_item f (line_item 0 t)
 
-  -- `pointsFrom` at any place; in a file it is 0
+  -- `points_from` at any place; in a file it is 0
   abbrev pub head_from : (at : ℕ) → Step
   head_from at =
       after (line 0 version_line at (drop at f)) (λ _ a. after (title a (drop a f)) (λ _ b. after (line 0 binary_line b (drop b f)) (λ _ c. after (line 0 dataset_line c (drop c f))
@@ -115,7 +115,7 @@ module _ (f : List ℕ) where
   unfolding types_from
   types_part n m = then_line (of_item f (numbers_item (Cell n) 4 (4 * m))) (of_line (types_line m))
 
-  -- `endFrom` without the end of the file
+  -- `end_from` without the end of the file
   abbrev pub fives_from : (m at : ℕ) → Step
   fives_from m at = closed f (numbers Five 4 m 0 at (drop at f))
 

@@ -12,8 +12,7 @@ pub cells_count_spec : {M : Type 1} → statement M
 cells_count_spec = tie.close (tie.spec
     (λ c. search rules)
     (λ c κs. tt)
-    (λ c. let a = c.before.before.before.args in counted_over a.file.now a.at cells_line 6 max_triangles _ c.before.digits-m.ensures c.if-m-gt-MAX_TRIANGLES.true)
+    (λ c. counted_over c.args.file.now c.args.at cells_line 6 max_triangles _ c.digits-m.ensures (omega arith))
     (λ c κs. search rules)
     (λ c κs. fits c.cells_line.ensures (cells_short _))
-    (λ c. let l = c.before in let d = l.before.before in let a = d.before.before.args in
-    counted_line a.file.now a.at cells_line 6 max_triangles _ d.digits-m.ensures _ _ (omega arith) c.same_line.ensures l.cells_line.ensures.says))
+    (λ c. counted_line c.args.file.now c.args.at cells_line 6 max_triangles _ c.digits-m.ensures _ _ (omega arith) c.same_line.ensures c.cells_line.ensures.says))

@@ -12,8 +12,7 @@ pub points_count_spec : {M : Type 1} → statement M
 points_count_spec = tie.close (tie.spec
     (λ c. search rules)
     (λ c κs. tt)
-    (λ c. let a = c.before.before.before.args in counted_over a.file.now a.at points_line 7 max_vertices _ c.before.digits-n.ensures c.if-n-gt-MAX_VERTICES.true)
+    (λ c. counted_over c.args.file.now c.args.at points_line 7 max_vertices _ c.digits-n.ensures (omega arith))
     (λ c κs. search rules)
     (λ c κs. fits c.points_line.ensures (points_short _))
-    (λ c. let l = c.before in let d = l.before.before in let a = d.before.before.args in
-    counted_line a.file.now a.at points_line 7 max_vertices _ d.digits-n.ensures _ _ (omega arith) c.same_line.ensures l.points_line.ensures.says))
+    (λ c. counted_line c.args.file.now c.args.at points_line 7 max_vertices _ c.digits-n.ensures _ _ (omega arith) c.same_line.ensures c.points_line.ensures.says))
