@@ -1,5 +1,7 @@
 // The numbers of `w_dw_ddw_plate_bending` (mitc_tri3.rs): energy, gradient and Hessian of a plate triangle. The source's two blocks are the crates `plate_bending` and
 // `plate_shear`; here stand the sums over the points of both. An index 0, 1, 2 of the source is x, y, z here: gd[0][1] is gd.x.y.
+#![tactic(auto)]
+
 ghost use Rattle.std.specs.Prelude.{◌≡◌, ◌<◌};
 ghost use Rattle.std.specs.Float.{binary64};
 ghost use Rattle.float.specs.Lists.{table};
@@ -16,7 +18,7 @@ use plate_shear::Shear;
 use vec3::V3;
 
 // What the energy and its derivatives are made of.
-#[derive(Drop)]
+#[derive(Clone, Copy)]
 pub struct State {
     pub thk: f64,
     pub gd: Matrix3,
@@ -26,7 +28,7 @@ pub struct State {
 }
 
 // dstrain by one degree of freedom (ino, idof): at the two points of bending and the three of shear.
-#[derive(Drop)]
+#[derive(Clone, Copy)]
 pub(crate) struct Dstrain {
     pub bending0: V3,
     pub bending1: V3,

@@ -61,15 +61,15 @@ ddw_spec = tie.close (tie.spec
     (λ c. omega arith)
     (λ c. omega arith)
     (λ c. omega arith)
-    (λ c. let m = c.before.loop2 in
-    (omega arith, run_more (place _) (entry _ (columns_of _ _ _ _ _) _) _ m.j refl (rw c.before.before.row.ensures) m.invariant.1))
+    (λ c. let m = c.before.loop-j in
+    (omega arith, run_more (place _) (entry _ (columns_of _ _ _ _ _) _) _ m.j refl (rw c.before.before.row-row.ensures) m.invariant.1))
     (λ c. omega arith)
     (λ c. omega arith)
-    (λ c. let n = c.before.before.before.before.before.before.before.before.before.loop in
-    let m = c.before.loop2 in
+    (λ c. let n = c.before.before.before.before.before.before.before.before.before.loop-i in
+    let m = c.before.loop-j in
     (omega arith, rows_more place (entry _ (columns_of _ _ _ _ _)) 9 _ n.i m.j (omega arith) n.invariant.1 m.invariant.1))
-    (λ c. let n = c.before.loop in
+    (λ c. let n = c.before.loop-i in
     let s2 = c.before.before in let s1 = s2.before in let s0 = s1.before in let b1 = s0.before in let second = b1.before in let b0 = second.before in
     let e : n.i ≡ 9 = omega arith in
     done _ {at = columns_of _ _ _ _ _} e n.invariant.1
-    (rw (s2.dstrain5.ensures, s1.dstrain4.ensures, s0.dstrain3.ensures, b1.dstrain2.ensures, second.t0_second.ensures, b0.dstrain.ensures, b0.before.t0_first.ensures))))
+    (rw (s2.dstrain-s2.ensures, s1.dstrain-s1.ensures, s0.dstrain-s0.ensures, b1.dstrain-b1.ensures, second.t0_second.ensures, b0.dstrain-b0.ensures, b0.before.t0_first.ensures))))

@@ -33,11 +33,11 @@ row_spec = tie.close (tie.spec
     (λ c. omega arith)
     (λ c. omega arith)
     (λ c. omega arith)
-    (λ c. let n = c.before.before.before.loop in
-    (omega arith, run_more (λ j. j) (λ j. ddw_at_of binary64 _ _ (columns_of _ _ _ _ _ j)) _ n.j refl (rw (c.ddw_at.ensures, c.before.columns2.ensures)) n.invariant.1))
+    (λ c. let n = c.before.before.before.loop-j in
+    (omega arith, run_more (λ j. j) (λ j. ddw_at_of binary64 _ _ (columns_of _ _ _ _ _ j)) _ n.j refl (rw (c.ddw_at.ensures, c.before.columns.ensures)) n.invariant.1))
     (λ c κs. omega arith)
     (λ c κs. tt)
     (λ c. omega arith)
-    (λ c. let n = c.before.before.before.loop in
+    (λ c. let n = c.before.before.before.loop-j in
     let e : n.j ≡ 8 = omega arith in
-    done _ (columns_of _ _ _ _ _) _ c.before.before.before.before.columns.ensures (rw e at n.invariant.1) (rw (c.ddw_last.ensures, c.before.columns3.ensures))))
+    done _ (columns_of _ _ _ _ _) _ c.before.before.before.before.columns-di.ensures (rw e at n.invariant.1) (rw (c.ddw_last.ensures, c.before.columns-2.ensures))))
