@@ -1,4 +1,6 @@
 // Ported from quadratic_bending.rs: how far two triangles that share an edge bend about it. `bending` computes it; here are the tests, and what is answered.
+#![tactic(auto)]
+
 ghost use Rattle.std.specs.Prelude.{◌≡◌};
 ghost use Rattle.std.specs.Float.{binary64};
 ghost use Rattle.quadratic_bending.specs.Bending.{corners_of, is_finite_of, bending_of, IsBending};

@@ -7,4 +7,4 @@ pub is_finite_spec : {M : Type 1} → statement M
 unfolding is_finite_of
 is_finite_spec = tie.close (tie.spec (λ c κs. tt) (λ c κs. tt) (λ c κs. tt) (λ c κs. tt)
     (λ c. let c3 = c.before in let c2 = c3.before in
-    rw (c.point_finite4.ensures, c3.point_finite3.ensures, c2.point_finite2.ensures, c2.before.point_finite.ensures)))
+    rw (c.point_finite-4.ensures, c3.point_finite-3.ensures, c2.point_finite-2.ensures, c2.before.point_finite.ensures)))
