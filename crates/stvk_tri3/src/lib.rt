@@ -1,4 +1,6 @@
 // Ported from stvk_tri3.rs: the strain of a triangle, and its StVK energy; by request a second strain. `strain` and `stvk` compute them; here are the tests, and what is answered.
+#![tactic(auto)]
+
 ghost use Rattle.std.specs.Prelude.{◌≡◌};
 ghost use Rattle.std.specs.Float.{binary64};
 ghost use Rattle.stvk_tri3.specs.GreenLagrange.{IsGreenLagrange};

@@ -6,4 +6,4 @@ use Rattle.stvk_tri3.proofs.answer.Tie as tie
 
 pub answer_spec : {M : Type 1} → statement M
 unfolding strain_of
-answer_spec = tie.close (tie.spec (λ c. rw c.if1.true) (λ c. rw (ne_eqb _ 0 c.if1.false)))
+answer_spec = tie.close (tie.spec (λ c. rw c.if-number-eq-ACCEPTED.true) (λ c. rw (ne_eqb _ 0 c.if-number-eq-ACCEPTED.false)))

@@ -7,4 +7,4 @@ pub tests_spec : {M : Type 1} → statement M
 unfolding tested_of
 tests_spec = tie.close (tie.spec (λ c κs. tt) (λ c κs. tt) (λ c κs. tt)
     (λ c. let is-finite2 = c.before in let is_finite = is-finite2.before in
-    rw (c.zero_divisor.ensures, is-finite2.is_finite2.ensures, is_finite.is_finite.ensures)))
+    rw (c.zero_divisor.ensures, is-finite2.is_finite-2.ensures, is_finite.is_finite.ensures)))
