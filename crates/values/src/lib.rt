@@ -1,4 +1,6 @@
 // A kernel's answer as C and Rust take it: the refusal number returned, the values one after the other in a lent array.
+#![tactic(auto)]
+
 ghost use Rattle.std.specs.Prelude.{◌≡◌, ◌+◌, ◌≤◌, length};
 ghost use Rattle.std.proofs.Math.Seq.{paste};
 ghost use Rattle.values.specs.Values.{GivesBending, GivesStrain, GivesEnergy};

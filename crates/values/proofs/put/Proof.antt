@@ -27,8 +27,8 @@ put_spec = tie.close (tie.spec
     (λ c. omega arith)
     (λ c. let l = c.before.before in
     let a = l.before.args in
-    (omega arith, refl, rw length-set l.loop.invariant.2, more a.values.now a.xs.now _ a.at l.loop.i (omega arith) (omega arith) l.loop.invariant.3))
+    (omega arith, refl, rw length-set l.loop-i.invariant.2, more a.values.now a.xs.now _ a.at l.loop-i.i (omega arith) (omega arith) l.loop-i.invariant.3))
     (λ c. omega arith)
     (λ c. let l = c.before in
-    let e : l.loop.i ≡ length l.before.args.xs.now = omega arith in
-    rw e at l.loop.invariant.3))
+    let e : l.loop-i.i ≡ length l.before.args.xs.now = omega arith in
+    rw e at l.loop-i.invariant.3))

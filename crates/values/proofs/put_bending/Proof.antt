@@ -9,6 +9,4 @@ pub put_bending_spec : {M : Type 1} → statement M
 put_bending_spec = tie.close (tie.spec
     (λ c κs. search rules)
     (λ c κs. search rules)
-    (λ c. let first = c.before.before.before.before.before in
-    let args = first.before.before.before.before.before.args in
-    (refl, c.put2.ensures ∙ rw first.put.ensures (parts args.values.now args.t1.w args.t1.dwdp 0 3 (search rules) (search rules)))))
+    (λ c. (refl, c.put-2.ensures ∙ rw c.put.ensures (parts c.args.values.now c.args.bending.w c.args.bending.dwdp 0 3 (search rules) (search rules)))))

@@ -10,6 +10,4 @@ put_energy_spec = tie.close (tie.spec
     (λ c. search rules)
     (λ c κs. search rules)
     (λ c κs. search rules)
-    (λ c. let first = c.before.before.before.before.before in
-    let args = first.before.before.before.before.before.args in
-    (refl, c.put2.ensures ∙ rw first.put.ensures (number_and_parts args.values.now args.t1.dw args.t1.ddw args.t1.w 10 (search rules) (search rules)))))
+    (λ c. (refl, c.put-2.ensures ∙ rw c.put.ensures (number_and_parts c.args.values.now c.args.energy.dw c.args.energy.ddw c.args.energy.w 10 (search rules) (search rules)))))
