@@ -25,29 +25,29 @@ add_all_spec = tie.close (tie.spec
     (λ c. omega arith)
     (λ c. omega arith)
     (λ c κs. let l = c.before.before.before.before in let s = l.before.before.before.before.before.before.before.before.before in
-    asked _ _ _ _ s.requires l.loop.i l.loop.invariant.whole (omega arith))
+    asked _ _ _ _ s.requires l.loop-i.i l.loop-i.invariant.whole (omega arith))
     (λ again κs. tt)
     (λ c κs. tt)
     (λ c. omega arith)
     (λ c. let again = c.before.before.before in let test = again.before.before in let call = test.before.before in let l = call.before.before.before.before.before in
     let s = l.before.before.before.before.before.before.before.before.before in
-    rw c.refused.ensures (refused_here binary64 _ _ _ _ s.args.vtx2dw.now s.requires (stvk_above binary64 _ _ _) l.loop.vtx2dw (omega arith)
-    again.clear2.ensures l.loop.i l.loop.invariant.whole (omega arith) call.answer.ensures test.if1.true l.loop.invariant.passed))
+    rw c.refused.ensures (refused_here binary64 _ _ _ _ s.args.vtx2dw.now s.requires (stvk_above binary64 _ _ _) l.loop-i.vtx2dw (omega arith)
+    again.clear-then-e-ne-ACCEPTED.ensures l.loop-i.i l.loop-i.invariant.whole (omega arith) call.answer-e.ensures test.if-e-ne-ACCEPTED.true l.loop-i.invariant.passed))
     (λ c κs. tt)
     (λ c. omega arith)
     (λ c. omega arith)
     (λ c. let add = c.before.before in let test = add.before.before.before.before in let call = test.before.before in let l = call.before.before.before.before.before in
     let s = l.before.before.before.before.before.before.before.before.before in
-    next binary64 _ _ _ _ s.args.vtx2dw.now s.requires l.loop.invariant (omega arith) (omega arith) call.answer.ensures test.if1.false add.add_gradient.ensures)
+    next binary64 _ _ _ _ s.args.vtx2dw.now s.requires l.loop-i.invariant (omega arith) (omega arith) call.answer-e.ensures test.if-e-ne-ACCEPTED.false add.add_gradient.ensures)
     (λ c κs. tt)
     (λ c κs. tt)
     (λ c κs. tt)
     (λ c. omega arith)
-    (λ c. let again = c.before.before.before in let test = again.before.before in let l = test.before.before.before.before in let clear = l.before.before.before in
+    (λ c. let again = c.before.before.before in let test = again.before.before in let l = test.before.before.before in let clear = l.before.before.before in
     let s = clear.before.before.before.before.before.before in
-    rw c.refused2.ensures (sum_refused binary64 _ _ _ _ s.args.vtx2dw.now s.requires l.loop.invariant (omega arith) (omega arith) clear.clear.ensures
-    (stvk_above binary64 _ _ _) (sym test.before.bad_sum.ensures ∙ test.if2.true) again.clear3.ensures))
+    rw c.refused-then-bad_sum.ensures (sum_refused binary64 _ _ _ _ s.args.vtx2dw.now s.requires l.loop-i.invariant (omega arith) (omega arith) clear.clear.ensures
+    (stvk_above binary64 _ _ _) (sym test.before.bad_sum.ensures ∙ test.if-bad_sum.true) again.clear-then-bad_sum.ensures))
     (λ c. omega arith)
-    (λ c. let l = c.before.before.before.before in let clear = l.before.before.before in let s = clear.before.before.before.before.before.before in
-    all_accepted binary64 _ _ _ _ s.args.vtx2dw.now s.requires l.loop.invariant (omega arith) (omega arith) clear.clear.ensures
-    (sym c.before.bad_sum.ensures ∙ c.if2.false)))
+    (λ c. let l = c.before.before.before in let clear = l.before.before.before in let s = clear.before.before.before.before.before.before in
+    all_accepted binary64 _ _ _ _ s.args.vtx2dw.now s.requires l.loop-i.invariant (omega arith) (omega arith) clear.clear.ensures
+    (sym c.before.bad_sum.ensures ∙ c.if-bad_sum.false)))

@@ -14,4 +14,4 @@ add_gradient_spec = tie.close (tie.spec
     (λ c κs. tt)
     (λ c. search rules)
     (λ c. let add = c.before.before in let third = add.before.before in let second = third.before.before in
-    rw (add.add_triangle.ensures, third.point_at3.ensures, second.point_at2.ensures, second.before.before.point_at.ensures)))
+    rw (add.add_triangle.ensures, third.point_at-x2.ensures, second.point_at-x1.ensures, second.before.before.point_at-x0.ensures)))

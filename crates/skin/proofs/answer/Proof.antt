@@ -7,4 +7,4 @@ use Rattle.skin.proofs.answer.Tie as tie
 pub answer_spec : {M : Type 1} → statement M
 unfolding answer_of
 answer_spec = tie.close (tie.spec (λ c κs. search rules) (λ c κs. search rules) (λ c κs. tt)
-    (λ c. rw (c.wdwddw_.ensures, c.before.corners_at2.ensures, c.before.before.corners_at.ensures)))
+    (λ c. rw (c.wdwddw_.ensures, c.before.corners_at-p1.ensures, c.before.before.corners_at-p0.ensures)))

@@ -7,4 +7,4 @@ use Rattle.skin.proofs.corners_at.Tie as tie
 pub corners_at_spec : {M : Type 1} → statement M
 unfolding corners_at
 corners_at_spec = tie.close (tie.spec (λ c κs. search rules) (λ c κs. search rules) (λ c κs. search rules)
-    (λ c. rw (c.point_at3.ensures, c.before.point_at2.ensures, c.before.before.point_at.ensures)))
+    (λ c. rw (c.point_at-p2.ensures, c.before.point_at-p1.ensures, c.before.before.point_at-p0.ensures)))

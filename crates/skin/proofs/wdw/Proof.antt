@@ -9,12 +9,12 @@ pub wdw_spec : {M : Type 1} → statement M
 wdw_spec = tie.close (tie.spec
     (λ c κs. tt)
     (λ c κs. tt)
-    (λ c. let t1 = c.before in rw c.refused.ensures (refused_1 _ _ _ _ _ _ (sym t1.before.bad_length.ensures ∙ t1.if1.true)))
+    (λ c. let t1 = c.before in rw c.refused.ensures (refused_1 _ _ _ _ _ _ (sym t1.before.bad_length.ensures ∙ t1.if-bad_length.true)))
     (λ c κs. tt)
     (λ c κs. tt)
     (λ c. let t2 = c.before in let t1 = t2.before.before in
-    rw c.refused2.ensures (refused_2 _ _ _ _ _ _ (sym t1.before.bad_length.ensures ∙ t1.if1.false) (rw t2.before.names_below.ensures at t2.if2.true)))
+    rw c.refused-then-not-names_below.ensures (refused_2 _ _ _ _ _ _ (sym t1.before.bad_length.ensures ∙ t1.if-bad_length.false) (rw (sym t2.before.names_below.ensures ∙ t2.if-not-names_below.true))))
     (λ c κs. let t2 = c.before in let t1 = t2.before.before in
-    (sym t1.before.bad_length.ensures ∙ t1.if1.false, (rw t2.before.names_below.ensures at t2.if2.false, tt)))
+    (sym t1.before.bad_length.ensures ∙ t1.if-bad_length.false, (rw (sym t2.before.names_below.ensures ∙ t2.if-not-names_below.false), tt)))
     (λ c. search rules)
     (λ c. search rules))
