@@ -1,4 +1,6 @@
 // Ported from mitc_tri3.rs: the energy of a plate triangle and the lumped masses of a panel. What is refused stands here, the numbers in crates `plate` and `masses`.
+#![tactic(auto)]
+
 ghost use Rattle.std.specs.Float.{binary64};
 ghost use Rattle.mitc_tri3.specs.Masses.{IsMasses};
 ghost use Rattle.mitc_tri3.specs.Plate.{IsPlate};

@@ -26,14 +26,14 @@ add_all_spec = tie.close (tie.spec
     (λ c. omega arith)
     (λ c κs. let l = c.before.before.before.before.before in
     let s = l.before.before.before.before in
-    let three = at_three _ _ s.requires.0 s.requires.1.0 l.loop.i l.loop.invariant.1 (omega arith) in
-    (l.loop.invariant.0 ∙ s.requires.1.1, (three.first, (three.second, three.third))))
+    let three = at_three _ _ s.requires.0 s.requires.1.0 l.loop-i.i l.loop-i.invariant.1 (omega arith) in
+    (l.loop-i.invariant.0 ∙ s.requires.1.1, (three.first, (three.second, three.third))))
     (λ c. omega arith)
     (λ c. omega arith)
     (λ c. let add = c.before.before in
     let l = add.before.before.before.before.before.before in
     let s = l.before.before.before.before in
-    let three = at_three _ _ s.requires.0 s.requires.1.0 l.loop.i l.loop.invariant.1 (omega arith) in
-    (omega arith, omega arith, rw add.add_masses.ensures (threes_step _ _ l.loop.i 0 l.loop.vtx2mass three.inside) ∙ l.loop.invariant.2))
-    (λ c. c.before.loop.invariant.0)
-    (λ c. let l = c.before in sym (threes_done _ _ l.loop.i l.loop.vtx2mass (omega arith)) ∙ l.loop.invariant.2))
+    let three = at_three _ _ s.requires.0 s.requires.1.0 l.loop-i.i l.loop-i.invariant.1 (omega arith) in
+    (omega arith, omega arith, rw add.add_masses.ensures (threes_step _ _ l.loop-i.i 0 l.loop-i.vtx2mass three.inside) ∙ l.loop-i.invariant.2))
+    (λ c. c.before.loop-i.invariant.0)
+    (λ c. let l = c.before in sym (threes_done _ _ l.loop-i.i l.loop-i.vtx2mass (omega arith)) ∙ l.loop-i.invariant.2))

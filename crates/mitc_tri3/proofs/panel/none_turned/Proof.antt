@@ -36,17 +36,17 @@ none_turned_spec = tie.close (tie.spec
     (λ c. omega arith)
     (λ c κs. let l = c.before.before.before.before in
     let s = l.before.before.before in
-    let three = at_three _ _ s.requires.0 s.requires.1 l.loop.first l.loop.invariant.0 (omega arith) in
+    let three = at_three _ _ s.requires.0 s.requires.1 l.loop-first.first l.loop-first.invariant.0 (omega arith) in
     (omega (arith, three.first), (omega (arith, three.second), omega (arith, three.third))))
     (λ c κs. tt)
     (λ c. let test = c.before in let l = test.before.before.before.before.before.before in
     let s = l.before.before.before in
-    let three = at_three _ _ s.requires.0 s.requires.1 l.loop.first l.loop.invariant.0 (omega arith) in
-    rw (← l.loop.invariant.1, next _ _ l.loop.first three.inside, ← test.before.corners_at.ensures, ← test.turns_right.ensures, c.if1.true))
+    let three = at_three _ _ s.requires.0 s.requires.1 l.loop-first.first l.loop-first.invariant.0 (omega arith) in
+    rw (← l.loop-first.invariant.1, next _ _ l.loop-first.first three.inside, ← test.before.corners_at.ensures, ← test.turns_right.ensures, c.if-turns_right.true))
     (λ c. omega arith)
     (λ c. omega arith)
     (λ c. let test = c.before in let l = test.before.before.before.before.before.before in
     let s = l.before.before.before in
-    let three = at_three _ _ s.requires.0 s.requires.1 l.loop.first l.loop.invariant.0 (omega arith) in
-    (omega arith, sym (next _ _ l.loop.first three.inside ∙ rw (← test.before.corners_at.ensures, ← test.turns_right.ensures, c.if1.false)) ∙ l.loop.invariant.1))
-    (λ c. let l = c.before in sym (every_threes_done _ _ _ l.loop.first (omega arith)) ∙ l.loop.invariant.1))
+    let three = at_three _ _ s.requires.0 s.requires.1 l.loop-first.first l.loop-first.invariant.0 (omega arith) in
+    (omega arith, sym (next _ _ l.loop-first.first three.inside ∙ rw (← test.before.corners_at.ensures, ← test.turns_right.ensures, c.if-turns_right.false)) ∙ l.loop-first.invariant.1))
+    (λ c. let l = c.before in sym (every_threes_done _ _ _ l.loop-first.first (omega arith)) ∙ l.loop-first.invariant.1))
