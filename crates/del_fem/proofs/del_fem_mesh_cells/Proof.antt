@@ -12,7 +12,7 @@ pub del_fem_mesh_cells_spec : {M : Type 1} → statement M
 del_fem_mesh_cells_spec = tie.close (tie.spec
     (λ c κs. tt)
     (λ c. search rules)
-    (λ c. let told = c.before in let known = within _ _ _ _ _ _ (sym told.before.before.read.ensures ∙ told.m.given.1) in omega (arith, known.3))
+    (λ c. let known = within _ _ _ _ _ _ (sym c.read.ensures ∙ c.in-Read.is) in omega (arith, known.3))
     (λ c. search rules)
-    (λ c. let told = c.before in block _ _ (sym told.before.before.read.ensures ∙ told.m.given.1) cells_at)
-    (λ c. let told = c.before in block _ _ (sym told.before.before.read.ensures ∙ told.at.given.1) cells_at))
+    (λ c. block _ _ (sym c.read.ensures ∙ c.in-Read.is) cells_at)
+    (λ c. block _ _ (sym c.read.ensures ∙ c.in-Refused.is) cells_at))

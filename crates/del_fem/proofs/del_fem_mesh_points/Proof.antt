@@ -12,7 +12,7 @@ pub del_fem_mesh_points_spec : {M : Type 1} → statement M
 del_fem_mesh_points_spec = tie.close (tie.spec
     (λ c κs. tt)
     (λ c. search rules)
-    (λ c. let told = c.before in let known = within _ _ _ _ _ _ (sym told.before.before.read.ensures ∙ told.n.given.1) in omega (arith, known.2))
+    (λ c. let known = within _ _ _ _ _ _ (sym c.read.ensures ∙ c.in-Read.is) in omega (arith, known.2))
     (λ c. search rules)
-    (λ c. let told = c.before in block _ _ (sym told.before.before.read.ensures ∙ told.n.given.1) points_at)
-    (λ c. let told = c.before in block _ _ (sym told.before.before.read.ensures ∙ told.at.given.1) points_at))
+    (λ c. block _ _ (sym c.read.ensures ∙ c.in-Read.is) points_at)
+    (λ c. block _ _ (sym c.read.ensures ∙ c.in-Refused.is) points_at))

@@ -10,5 +10,5 @@ del_fem_mesh_read_spec = tie.close (tie.spec
     (λ c κs. tt)
     (λ c. search rules)
     (λ c. search rules)
-    (λ c. let told = c.before in lent _ _ (sym told.before.before.read.ensures ∙ told.vertices.given.1) refl)
-    (λ c. let told = c.before in lent _ _ (sym told.before.before.read.ensures ∙ told.at.given.1) refl))
+    (λ c. lent _ _ (sym c.read.ensures ∙ c.in-Read.is) refl)
+    (λ c. lent _ _ (sym c.read.ensures ∙ c.in-Refused.is) refl))

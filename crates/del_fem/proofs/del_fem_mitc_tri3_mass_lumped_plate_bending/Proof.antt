@@ -8,4 +8,4 @@ del_fem_mitc_tri3_mass_lumped_plate_bending_spec = tie.close (tie.spec
     (λ c κs. tt)
     (λ c κs. tt)
     (λ c. search rules)
-    (λ c. let answer = c.before.before in rw answer.before.before.of_words.ensures at answer.mass_lumped_plate_bending.ensures))
+    (λ c. let answer = c.before.before in rw answer.before.before.of_words-material.ensures at answer.mass_lumped_plate_bending.ensures))

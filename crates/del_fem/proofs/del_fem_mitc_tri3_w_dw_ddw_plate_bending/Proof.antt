@@ -7,4 +7,4 @@ del_fem_mitc_tri3_w_dw_ddw_plate_bending_spec = tie.close (tie.spec
     (λ c κs. tt)
     (λ c κs. tt)
     (λ c κs. tt)
-    (λ c. let answer = c.before.before in rw (answer.w_dw_ddw_plate_bending.ensures, answer.before.before.before.of_words.ensures) at c.put_energy.ensures))
+    (λ c. let answer = c.before.before in rw (answer.w_dw_ddw_plate_bending.ensures, answer.before.before.before.of_words-material.ensures) at c.put_energy.ensures))
