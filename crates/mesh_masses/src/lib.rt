@@ -14,7 +14,7 @@ use material::Material;
 use refusal::{ACCEPTED, BAD_ANSWER, BAD_INPUT, BAD_LENGTH, BAD_NAME, TURNED};
 
 // The vertices that a triangle names.
-#[derive(Drop)]
+#[derive(Clone, Copy)]
 struct Triangle {
     i0: usize,
     i1: usize,
@@ -22,7 +22,7 @@ struct Triangle {
 }
 
 // What holds of every triangle of a panel.
-#[derive(Drop)]
+#[derive(Clone, Copy)]
 struct Seen {
     named: bool,
     finite: bool,

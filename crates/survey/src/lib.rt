@@ -8,7 +8,7 @@ use del_geo_core::tri2;
 use del_geo_core::tri2::{Tri2, V2};
 
 // The smallest and the largest x and y.
-#[derive(Drop)]
+#[derive(Clone, Copy)]
 pub struct Extent {
     pub x0: f64,
     pub x1: f64,
@@ -17,7 +17,7 @@ pub struct Extent {
 }
 
 // The points whose coordinate `axis` is the value.
-#[derive(Drop)]
+#[derive(Clone, Copy)]
 pub struct Row {
     pub axis: usize,
     pub value: f64,

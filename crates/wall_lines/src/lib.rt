@@ -36,7 +36,7 @@ const TURNED: [u8; 90] =
     *b"triangle %0000 turns right: its corners, the points %0000, %0000 and %0000, run clockwise\n";
 
 // What a wall is made of, in kg/m3, m and Pa.
-#[derive(Drop)]
+#[derive(Clone, Copy)]
 pub struct Sheet {
     pub density: f64,
     pub thickness: f64,

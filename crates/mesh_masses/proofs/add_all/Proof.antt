@@ -27,22 +27,22 @@ add_all_spec = tie.close (tie.spec
     (λ c κs. tt)
     (λ c κs. tt)
     (λ c κs. tt)
-    (λ c. let l = c.before.before.before.before.before.before.before.before.before.before in omega (arith, l.before.before.before.before.well-formed))
+    (λ c. let l = c.before.before.before.before.before.before.before.before.before.before in omega (arith, l.before.before.before.before.well_formed))
     (λ c. omega arith)
     (λ c. let add = c.before.before in let m = add.before.before in let p2 = m.before in let p1 = p2.before in let p0 = p1.before in let n = p0.before in let l = n.before.before in
     let s = l.before.before.before.before in
     let a = s.args in
     let xy = xy_in a.points.now in
-    let t = l.loop.t in
+    let t = l.loop-t.t in
     let named = name_below a.cells.now (vertices_of xy) s.requires.0 t in (
       omega arith,
       refl,
       omega (arith, add.add_triangle.auto),
-      rw (fold_more (name_of a.cells.now) t (add_masses binary64 xy a.thick a.rho) a.vtx2mass.now, ← l.loop.invariant.3, add.add_triangle.ensures, m.mass.ensures, p2.point3.ensures, p1.point2.ensures, p0.point.ensures, n.names.ensures)
-          (added binary64 _ _ _ _ _ _ _ (vertices_of xy) (l.loop.invariant.2 ∙ s.requires.1) (named 0 (omega arith) (omega arith)) (named 1 (omega arith) (omega arith)) (named 2 (omega arith) (omega arith))),
+      rw (fold_more (name_of a.cells.now) t (add_masses binary64 xy a.thick a.rho) a.vtx2mass-1.now, ← l.loop-t.invariant.3, add.add_triangle.ensures, m.mass-m.ensures, p2.point-p2.ensures, p1.point-p1.ensures, p0.point-p0.ensures, n.names-n.ensures)
+          (added binary64 _ _ _ _ _ _ _ (vertices_of xy) (l.loop-t.invariant.2 ∙ s.requires.1) (named 0 (omega arith) (omega arith)) (named 1 (omega arith) (omega arith)) (named 2 (omega arith) (omega arith))),
     ))
-    (λ c. c.before.loop.invariant.2)
+    (λ c. c.before.loop-t.invariant.2)
     (λ c. let l = c.before in
     let a = l.before.before.before.before.args in
-    let e : l.loop.t ≡ length a.cells.now / 16 = omega arith in
-    rw (names_rows a.cells.now, ← e) l.loop.invariant.3))
+    let e : l.loop-t.t ≡ length a.cells.now / 16 = omega arith in
+    rw (names_rows a.cells.now, ← e) l.loop-t.invariant.3))

@@ -37,14 +37,14 @@ look_spec = tie.close (tie.spec
     let a = l.before.before.before.args in
     let xy = xy_in a.points.now in
     let f = name_of a.cells.now in
-    let t = l.loop.t in (
+    let t = l.loop-t.t in (
       omega arith,
       refl,
-      rw (every_more f t (λ name. ltb name (length a.points.now / 24)), ← l.loop.invariant.2, n.names.ensures),
-      rw (every_more f t (λ i. point_finite (point_at xy i)), ← l.loop.invariant.3, c.before.is_finite.ensures, p2.point3.ensures, p1.point2.ensures, p0.point.ensures, n.names.ensures),
-      rw (test_more f t (corners_at xy) (λ p. not (turns_right binary64 p)), ← l.loop.invariant.4, c.turns_right.ensures, p2.point3.ensures, p1.point2.ensures, p0.point.ensures, n.names.ensures),
+      rw (every_more f t (λ name. ltb name (length a.points.now / 24)), ← l.loop-t.invariant.2, n.names-n.ensures),
+      rw (every_more f t (λ i. point_finite (point_at xy i)), ← l.loop-t.invariant.3, c.before.is_finite-finite.ensures, p2.point-p2.ensures, p1.point-p1.ensures, p0.point-p0.ensures, n.names-n.ensures),
+      rw (test_more f t (corners_at xy) (λ p. not (turns_right binary64 p)), ← l.loop-t.invariant.4, c.turns_right.ensures, p2.point-p2.ensures, p1.point-p1.ensures, p0.point-p0.ensures, n.names-n.ensures),
     ))
     (λ c. let l = c.before in
     let a = l.before.before.before.args in
-    let e : l.loop.t ≡ length a.cells.now / 16 = omega arith in
-    rw (l.loop.invariant.2, l.loop.invariant.3, l.loop.invariant.4, vertices a.points.now, names_rows a.cells.now, e)))
+    let e : l.loop-t.t ≡ length a.cells.now / 16 = omega arith in
+    rw (l.loop-t.invariant.2, l.loop-t.invariant.3, l.loop-t.invariant.4, vertices a.points.now, names_rows a.cells.now, e)))

@@ -7,4 +7,4 @@ names_spec = tie.close (tie.spec
     (λ c κs. tt)
     (λ c κs. tt)
     (λ c κs. tt)
-    (λ c. rw (c.name3.ensures, c.before.name2.ensures, c.before.before.name.ensures)))
+    (λ c. rw (c.name-3.ensures, c.before.name-2.ensures, c.before.before.name.ensures)))

@@ -21,5 +21,5 @@ area_spec = tie.close (tie.spec
     (λ c. omega arith)
     (λ c. omega arith)
     (λ c. let area = c.before in let l = area.before.before.before in
-    (omega arith, turn _ _ _ l.loop.t l.loop.invariant.1 (rw (area.area.ensures, area.before.triangle.ensures))))
-    (λ c. let l = c.before in let e : l.loop.t ≡ _ = omega arith in rw e at l.loop.invariant.1))
+    (omega arith, turn _ _ _ l.loop-t.t l.loop-t.invariant.1 (rw (area.area-signed.ensures, area.before.triangle-p.ensures))))
+    (λ c. let l = c.before in let e : l.loop-t.t ≡ _ = omega arith in rw e at l.loop-t.invariant.1))

@@ -6,4 +6,4 @@ pub is_whole_spec : {M : Type 1} → statement M
 is_whole_spec = tie.close (tie.spec
     (λ c κs. tt)
     (λ c κs. tt)
-    (λ c. rw (c.is_whole2.ensures, c.before.is_whole.ensures)))
+    (λ c. rw (c.is_whole-2.ensures, c.before.is_whole.ensures)))

@@ -4,5 +4,5 @@ use Rattle.survey.proofs.larger.Tie as tie
 
 pub larger_spec : {M : Type 1} → statement M
 larger_spec = tie.close (tie.spec
-    (λ c. rw c.if1.true)
-    (λ c. rw c.if1.false))
+    (λ c. rw c.if-a-b.true)
+    (λ c. rw c.if-a-b.false))

@@ -18,5 +18,5 @@ line_of_spec = tie.close (tie.spec
     (λ c κs. (omega arith, omega arith))
     (λ c. omega arith)
     (λ c. omega arith)
-    (λ c. let l = c.before.before in (omega arith, omega arith, turn _ _ _ l.loop.i l.loop.invariant.2 c.with_line.ensures.0))
-    (λ c. let l = c.before in let e : l.loop.i ≡ _ = omega arith in rw e at l.loop.invariant.2))
+    (λ c. let l = c.before.before in (omega arith, omega arith, turn _ _ _ l.loop-i.i l.loop-i.invariant.2 c.with_line-line.ensures.0))
+    (λ c. let l = c.before in let e : l.loop-i.i ≡ _ = omega arith in rw e at l.loop-i.invariant.2))

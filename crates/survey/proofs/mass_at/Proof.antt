@@ -9,5 +9,5 @@ mass_at_spec = tie.close (tie.spec
     (λ c. omega arith)
     (λ c. omega arith)
     (λ c. omega arith)
-    (λ c. rw (lt-ltb _ _ c.before.if1.true))
-    (λ c. rw (le-ltb _ _ c.if1.false)))
+    (λ c. rw (lt-ltb _ _ c.before.if-i-mass.true))
+    (λ c. rw (le-ltb _ _ c.if-i-mass.false)))

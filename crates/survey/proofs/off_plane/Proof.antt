@@ -14,9 +14,9 @@ off_plane_spec = tie.close (tie.spec
     (λ c. begun _ _)
     (λ c κs. tt)
     (λ c. let read = c.before in let l = read.before.before in
-    found _ _ _ l.loop.invariant (rw (← read.coordinate2.ensures, ← l.before.coordinate.ensures) c.if1.true))
+    found _ _ _ l.loop-i.invariant (rw (← read.coordinate.ensures, ← l.before.coordinate-z.ensures) c.if-coordinate-z.true))
     (λ c. omega arith)
     (λ c. omega arith)
     (λ c. let read = c.before in let l = read.before.before in
-    passed _ _ _ l.loop.invariant (omega arith) (rw (← read.coordinate2.ensures, ← l.before.coordinate.ensures) c.if1.false))
-    (λ c. ended _ _ _ c.before.loop.invariant (omega arith)))
+    passed _ _ _ l.loop-i.invariant (omega arith) (rw (← read.coordinate.ensures, ← l.before.coordinate-z.ensures) c.if-coordinate-z.false))
+    (λ c. ended _ _ _ c.before.loop-i.invariant (omega arith)))

@@ -15,9 +15,9 @@ outside_spec = tie.close (tie.spec
     (λ c κs. tt)
     (λ c κs. tt)
     (λ c. let inside = c.before in let read = inside.before in
-    found _ _ _ read.before.before.loop.invariant (rw (← read.coordinate.ensures, ← inside.is_inside.ensures) c.if1.true))
+    found _ _ _ read.before.before.loop-k.invariant (rw (← read.coordinate.ensures, ← inside.is_inside.ensures, c.if-not-is_inside.true)))
     (λ c. omega arith)
     (λ c. omega arith)
     (λ c. let inside = c.before in let read = inside.before in
-    passed _ _ _ read.before.before.loop.invariant (omega arith) (rw (← read.coordinate.ensures, ← inside.is_inside.ensures) c.if1.false))
-    (λ c. ended _ _ _ c.before.loop.invariant (omega arith)))
+    passed _ _ _ read.before.before.loop-k.invariant (omega arith) (rw (← read.coordinate.ensures, ← inside.is_inside.ensures, c.if-not-is_inside.false)))
+    (λ c. ended _ _ _ c.before.loop-k.invariant (omega arith)))

@@ -6,4 +6,4 @@ pub point_spec : {M : Type 1} → statement M
 point_spec = tie.close (tie.spec
     (λ c κs. tt)
     (λ c κs. tt)
-    (λ c. rw (c.coordinate2.ensures, c.before.coordinate.ensures)))
+    (λ c. rw (c.coordinate-2.ensures, c.before.coordinate.ensures)))

@@ -19,5 +19,5 @@ row_mass_spec = tie.close (tie.spec
     (λ c κs. tt)
     (λ c. omega arith)
     (λ c. omega arith)
-    (λ c. let l = c.before.before in (omega arith, turn _ _ _ l.loop.i l.loop.invariant.1 c.with_row.ensures))
-    (λ c. let l = c.before in let e : l.loop.i ≡ _ = omega arith in rw e at l.loop.invariant.1))
+    (λ c. let l = c.before.before in (omega arith, turn _ _ _ l.loop-i.i l.loop-i.invariant.1 c.with_row-sum.ensures))
+    (λ c. let l = c.before in let e : l.loop-i.i ≡ _ = omega arith in rw e at l.loop-i.invariant.1))

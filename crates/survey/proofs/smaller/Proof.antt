@@ -4,5 +4,5 @@ use Rattle.survey.proofs.smaller.Tie as tie
 
 pub smaller_spec : {M : Type 1} → statement M
 smaller_spec = tie.close (tie.spec
-    (λ c. rw c.if1.true)
-    (λ c. rw c.if1.false))
+    (λ c. rw c.if-b-a.true)
+    (λ c. rw c.if-b-a.false))

@@ -11,4 +11,4 @@ triangle_spec = tie.close (tie.spec
     (λ c κs. tt)
     (λ c κs. tt)
     (λ c. let second = c.before.before in let first = second.before.before in
-    rw (c.point3.ensures, c.before.name3.ensures, second.point2.ensures, second.before.name2.ensures, first.point.ensures, first.before.name.ensures)))
+    rw (c.point-3.ensures, c.before.name-3.ensures, second.point-2.ensures, second.before.name-2.ensures, first.point.ensures, first.before.name.ensures)))

@@ -22,9 +22,9 @@ turned_spec = tie.close (tie.spec
     (λ c κs. tt)
     (λ c κs. tt)
     (λ c. let turns = c.before in let l = turns.before.before.before in
-    found _ _ _ l.loop.invariant (tested turns.turns_right.ensures turns.before.triangle.ensures ∙ c.if1.true))
+    found _ _ _ l.loop-t.invariant (tested turns.turns_right.ensures turns.before.triangle.ensures ∙ c.if-turns_right.true))
     (λ c. omega arith)
     (λ c. omega arith)
     (λ c. let turns = c.before in let l = turns.before.before.before in
-    passed _ _ _ l.loop.invariant (omega arith) (tested turns.turns_right.ensures turns.before.triangle.ensures ∙ c.if1.false))
-    (λ c. ended _ _ _ c.before.loop.invariant (omega arith)))
+    passed _ _ _ l.loop-t.invariant (omega arith) (tested turns.turns_right.ensures turns.before.triangle.ensures ∙ c.if-turns_right.false))
+    (λ c. ended _ _ _ c.before.loop-t.invariant (omega arith)))

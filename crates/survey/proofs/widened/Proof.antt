@@ -8,4 +8,4 @@ widened_spec = tie.close (tie.spec
     (λ c κs. tt)
     (λ c κs. tt)
     (λ c κs. tt)
-    (λ c. rw (c.larger2.ensures, c.before.smaller2.ensures, c.before.before.larger.ensures, c.before.before.before.smaller.ensures)))
+    (λ c. rw (c.larger-2.ensures, c.before.smaller-2.ensures, c.before.before.larger.ensures, c.before.before.before.smaller.ensures)))

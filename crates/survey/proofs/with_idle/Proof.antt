@@ -7,5 +7,5 @@ pub with_idle_spec : {M : Type 1} → statement M
 with_idle_spec = tie.close (tie.spec
     (λ c κs. tt)
     (λ c. omega arith)
-    (λ c. (rw (← c.before.mass_at.ensures, c.if1.true), omega arith))
-    (λ c. (rw (← c.before.mass_at.ensures, c.if1.false), omega arith)))
+    (λ c. (rw (← c.before.mass_at.ensures, c.if-mass_at.true), omega arith))
+    (λ c. (rw (← c.before.mass_at.ensures, c.if-mass_at.false), omega arith)))

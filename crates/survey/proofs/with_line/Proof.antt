@@ -8,5 +8,5 @@ pub with_line_spec : {M : Type 1} → statement M
 with_line_spec = tie.close (tie.spec
     (λ c. search rules)
     (λ c. omega arith)
-    (λ c. (rw c.if1.true, omega arith))
-    (λ c. (rw c.if1.false, omega arith)))
+    (λ c. (rw c.if-i-place.true, omega arith))
+    (λ c. (rw c.if-i-place.false, omega arith)))

@@ -6,5 +6,5 @@ pub with_row_spec : {M : Type 1} → statement M
 with_row_spec = tie.close (tie.spec
     (λ c κs. tt)
     (λ c κs. tt)
-    (λ c. rw (c.mass_at.ensures, ← c.before.before.in_row.ensures, c.before.if1.true))
-    (λ c. rw (← c.before.in_row.ensures, c.if1.false)))
+    (λ c. rw (c.mass_at.ensures, ← c.before.before.in_row.ensures, c.before.if-in_row.true))
+    (λ c. rw (← c.before.in_row.ensures, c.if-in_row.false)))

@@ -15,4 +15,4 @@ dot_spec = tie.close (tie.spec
     (λ c κs. search rules)
     (λ c. search rules)
     (λ c. let r = c.before.before.before.before.before.before.before.before in let m = r.before.before in let y = m.before in
-    rw (← y.before.coordinate.ensures, ← y.coordinate2.ensures, ← m.mass_at.ensures, ← r.before.edge.ensures, ← r.radius.ensures) c.before.before.fill.ensures))
+    rw (← y.before.coordinate-x.ensures, ← y.coordinate-y.ensures, ← m.mass_at.ensures, ← r.before.edge.ensures, ← r.radius-r.ensures) c.before.before.fill.ensures))

@@ -17,4 +17,4 @@ head_spec = tie.close (tie.spec
     (λ c κs. search rules)
     (λ c. search rules)
     (λ c. let k = c.before.before.before.before.before.before.before.before in let total = k.before.before in let area = total.before in let m = area.before in
-    rw (← m.before.before.extent_of.ensures, ← m.before.count.ensures, ← m.count2.ensures, ← area.area.ensures, ← total.total_mass.ensures, ← k.before.idle.ensures, ← k.count3.ensures) c.before.before.fill.ensures))
+    rw (← m.before.before.extent_of-e.ensures, ← m.before.count-n.ensures, ← m.count-m.ensures, ← area.area-area.ensures, ← total.total_mass-total.ensures, ← k.before.idle.ensures, ← k.count-idle.ensures) c.before.before.fill.ensures))

@@ -13,4 +13,4 @@ off_plane_spec = tie.close (tie.spec
     (λ c κs. search rules)
     (λ c. search rules)
     (λ c. let z0 = c.before.before.before.before.before in let z = z0.before.before in
-    rw (← z.before.count.ensures, ← z.coordinate.ensures, ← z0.coordinate2.ensures) c.before.before.fill.ensures))
+    rw (← z.before.count-name.ensures, ← z.coordinate-z.ensures, ← z0.coordinate.ensures) c.before.before.fill.ensures))

@@ -11,4 +11,4 @@ outline_spec = tie.close (tie.spec
     (λ c κs. search rules)
     (λ c. search rules)
     (λ c. let fill = c.before.before in
-    rw fill.before.before.before.before.before.before.before.before.before.before.before.before.before.before.before.before.before.before.before.triangle.ensures at fill.fill.ensures))
+    rw fill.before.before.before.before.before.before.before.before.before.before.before.before.before.before.before.before.before.before.before.triangle-p.ensures at fill.fill.ensures))

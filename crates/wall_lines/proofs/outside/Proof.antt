@@ -17,9 +17,9 @@ outside_spec = tie.close (tie.spec
     (λ c. search rules)
     (λ c κs. search rules)
     (λ c. search rules)
-    (λ c. let m = c.before.before.before.before.before.before in rw (m.match.keys1, ← m.before.count.ensures) c.before.before.fill.ensures)
+    (λ c. let m = c.before.before.before.before.before.before in rw (m.in_default.keys1, ← m.before.count-name.ensures) c.before.before.fill.ensures)
     (λ c. search rules)
-    (λ c. let m = c.before.before.before.before.before.before in rw (m.match.keys2, ← m.before.count.ensures) c.before.before.fill2.ensures)
+    (λ c. let m = c.before.before.before.before.before.before in rw (m.in_default.keys2, ← m.before.count-name.ensures) c.before.before.fill-in-1.ensures)
     (λ c. search rules)
     (λ c. let m = c.before.before.before.before.before.before in
-    rw (ne_eqb _ 0 m.match.rest.0.1, ne_eqb _ 1 m.match.rest.1, ← m.before.count.ensures) c.before.before.fill3.ensures))
+    rw (ne_eqb _ 0 m.in_default.rest.0.1, ne_eqb _ 1 m.in_default.rest.1, ← m.before.count-name.ensures) c.before.before.fill-in_default.ensures))

@@ -14,4 +14,4 @@ point_spec = tie.close (tie.spec
     (λ c κs. search rules)
     (λ c. search rules)
     (λ c. let m = c.before.before.before.before.before in let y = m.before.before in let x = y.before in
-    rw (← x.before.count.ensures, ← x.coordinate.ensures, ← y.coordinate2.ensures, ← m.mass_at.ensures) c.before.before.fill.ensures))
+    rw (← x.before.count-name.ensures, ← x.coordinate-x.ensures, ← y.coordinate-y.ensures, ← m.mass_at.ensures) c.before.before.fill.ensures))

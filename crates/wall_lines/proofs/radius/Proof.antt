@@ -7,5 +7,5 @@ pub radius_spec : {M : Type 1} → statement M
 unfolding radius_of
 radius_spec = tie.close (tie.spec
     (λ c κs. tt)
-    (λ c. rw (c.before.if1.true, c.sqrt.ensures.same))
-    (λ c. rw c.if1.false))
+    (λ c. rw (c.before.if-total.true, c.sqrt.ensures.same))
+    (λ c. rw c.if-total.false))

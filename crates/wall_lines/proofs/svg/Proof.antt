@@ -10,4 +10,4 @@ svg_spec = tie.close (tie.spec
     (λ c. search rules)
     (λ c κs. search rules)
     (λ c. search rules)
-    (λ c. rw (← c.before.before.before.before.before.before.before.before.edge.ensures) c.before.before.fill.ensures))
+    (λ c. rw (← c.before.before.before.before.before.before.before.before.edge-d.ensures) c.before.before.fill.ensures))
