@@ -1,4 +1,4 @@
--- `rootOf` meets the rule, and so is the only answer: its M has the digits that the rule asks for, and `nearestRoot` is nearest to M's root.
+-- `root_of` meets the rule, and so is the only answer: its M has the digits that the rule asks for, and `nearest_root` is nearest to M's root.
 use mathlib.Core.Path.{◌≡◌, refl, sym, ap, ◌∙◌}
 use mathlib.Core.Bool.{true, false}
 use Prim.Native.Nat.{ℕ, zero, suc, ◌+◌, ◌-◌, ◌*◌, ◌/◌, ◌^◌, ◌≤◌, ◌<◌}

@@ -54,12 +54,12 @@ root_word_of f w = to_bits f (root_of f (of_bits f w))
 
 -- ---- the statements
 
--- r is the root of x by the rule, and it is what `rootOf` computes
+-- r is the root of x by the rule, and it is what `root_of` computes
 pub record SquareRoot (f : Format) (x r : Float) : Type 0 where
   pub rule : IsRoot f x r
   pub same : r ≡ root_of f x
 
--- the pattern r stands for the root of what the pattern w stands for, and it is what `rootWordOf` computes
+-- the pattern r stands for the root of what the pattern w stands for, and it is what `root_word_of` computes
 pub record SquareRootWord (f : Format) (w r : ℕ) : Type 0 where
   pub rule : IsRoot f (of_bits f w) (of_bits f r)
   pub same : r ≡ root_word_of f w

@@ -1,4 +1,4 @@
--- The nearest whole root: what the whole root leaves over decides the rounding, so that `nearestRoot` has the rule; it has half the number's digits, and what it is taken of is in range.
+-- The nearest whole root: what the whole root leaves over decides the rounding, so that `nearest_root` has the rule; it has half the number's digits, and what it is taken of is in range.
 use Rattle.std.proofs.Common.{◌≡◌, ℕ, zero, suc, ◌+◌, ◌-◌, ◌*◌, ◌/◌, ◌%◌, ◌^◌, ◌<◌, ◌≤◌, Bool, true, false, cond, not, T, ltb, leb, sym, ap, lt_of_le_of_lt, lt_irrefl, mul-le-mul, lt_of_not-le, arith, ltb→lt, leb→le, nltb→le}
 use native.Mathlib.Nat.{pow-succ'}
 use lib.Dec.{nleb→lt}

@@ -1,4 +1,4 @@
--- `vec3::norm` meets its contract: the root is what `rootOf` computes.
+-- `vec3::norm` meets its contract: the root is what `root_of` computes.
 use Rattle.vec3.specs.Vec3.{norm_of}
 use Rattle.vec3.proofs.norm.Statement.{statement}
 use Rattle.vec3.proofs.norm.Tie as tie
