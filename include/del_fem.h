@@ -1,5 +1,5 @@
 /*
- * How heavy and how stiff thin triangles are: the routines of del_fem for C99 and C++, over target/staticlib/libdel_fem.a (x86-64 Linux; built by `rt staticlib del_fem`).
+ * How heavy and how stiff thin triangles are: the routines of del_fem for C99 and C++, over crates/del_fem/out/libdel_fem.a (x86-64 Linux; built by `rt lib` in crates/del_fem).
  *
  * Each routine's source is proved to give what docs/01-scope.md says, on every input, to end, and to read and write nothing but what it is lent. Not part of the proof, and run by c/run: the
  * compiler, the border to C, the inline functions below, and the bits of a NaN (docs/EXCEPTIONS.md), for the logic knows one NaN and no more of it: that the root's NaN is

@@ -1,4 +1,4 @@
-//! Links the proved archive `libdel_fem.a`, from the folder that DEL_FEM_LIB_DIR names or else from the repository's target/staticlib. Says in words why it cannot.
+//! Links the proved archive `libdel_fem.a`, from the folder that DEL_FEM_LIB_DIR names or else from the repository's crates/del_fem/out. Says in words why it cannot.
 use std::path::{Path, PathBuf};
 use std::{env, process};
 
@@ -33,7 +33,10 @@ fn folder() -> Result<PathBuf, String> {
         )),
         None => {
             let here = env::var_os("CARGO_MANIFEST_DIR").ok_or("CARGO_MANIFEST_DIR is not set")?;
-            Ok(Path::new(&here).with_file_name("target").join("staticlib"))
+            Ok(Path::new(&here)
+                .with_file_name("crates")
+                .join("del_fem")
+                .join("out"))
         }
     }
 }
@@ -46,7 +49,7 @@ fn link(folder: &Path) -> Result<(), String> {
     if !archive.is_file() {
         return Err(format!(
             "there is no archive {name}\n\
-             \x20 To make it, run `rt staticlib del_fem` at the repository's root, which writes target/staticlib/libdel_fem.a.\n\
+             \x20 To make it, run `rt lib` in the repository's crates/del_fem, which writes crates/del_fem/out/libdel_fem.a.\n\
              \x20 To take it from another folder, set DEL_FEM_LIB_DIR to that folder's absolute path."
         ));
     }

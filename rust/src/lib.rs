@@ -7,8 +7,8 @@
 //!
 //! # What it needs
 //!
-//! x86-64 Linux, Rust 1.63 or newer, and the archive `libdel_fem.a`, which `rt staticlib del_fem` at the repository's root writes to `target/staticlib`. To take it
-//! from another folder, set `DEL_FEM_LIB_DIR` to that folder's absolute path.
+//! x86-64 Linux, Rust 1.63 or newer, and the archive `libdel_fem.a`, which `rt lib` in the repository's `crates/del_fem` writes to its `out`. To take it from
+//! another folder, set `DEL_FEM_LIB_DIR` to that folder's absolute path.
 //!
 //! # Units
 //!
