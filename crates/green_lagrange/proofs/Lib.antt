@@ -5,7 +5,9 @@ pub mod Rest
 pub mod Corners
 pub mod Factors
 pub mod Gradient
+pub mod Identity
 pub mod Places
 pub mod Values
+pub mod Axis
 pub mod Theorem
 pub mod RuledOut

@@ -12,7 +12,6 @@ use lib.Ieee.{Float, Format, binary64}
 use Rattle.float.specs.Lists.{every, all_finite}
 use Rattle.float.proofs.Scan.{every_append}
 use Rattle.refusal.specs.Refusal.{accepted}
-use Rattle.rounding.specs.Exact.{Num, Equal, ◌⊞◌, ◌⊟◌, ◌⊠◌, scale}
 use Rattle.corners.specs.Plane as plane
 use Rattle.corners.specs.Space as space
 use Rattle.del_geo_core.specs.declared.tri2.Tri2.{Tri2}
@@ -25,34 +24,16 @@ use Rattle.stvk_tri3.specs.declared.Strain.{Strain}
 use Rattle.stvk_tri3.proofs.StrainAnswer.{numbers_exactly, accepted_values}
 use Rattle.green_lagrange.specs.Book.{DeformationGradient, gradient, IsBookStrain}
 use Rattle.green_lagrange.specs.Sheet.{most_doublings, largest_coordinate, is_rest, is_whole, InFamily}
+use Rattle.green_lagrange.proofs.Axis.{first, second, third, first_by, second_by, third_by}
 use Rattle.green_lagrange.proofs.Corners.{edge, corners}
 use Rattle.green_lagrange.proofs.Factors.{gugu0}
-use Rattle.green_lagrange.proofs.Fraction.{reads_sum, reads_minus, reads_product, reads_times, reads_half, reads_one, reads_none, is_fraction}
+use Rattle.green_lagrange.proofs.Fraction.{reads_sum, reads_minus, reads_product, reads_times, reads_half, is_fraction}
 use Rattle.green_lagrange.proofs.Gradient.{Column, dot_reads, component_reads, column, slope_x_lem, slope_y_lem}
+use Rattle.green_lagrange.proofs.Identity.{identity_xx, identity_yy, identity_xy}
 use Rattle.green_lagrange.proofs.Places.{all_finite_lem, places}
-use Rattle.green_lagrange.proofs.Vector.{one, none, e_x, e_y, e_z, good}
+use Rattle.green_lagrange.proofs.Vector.{e_x, e_y, e_z, good}
 use Rattle.green_lagrange.proofs.Rest.{points, divisors}
-use Rattle.green_lagrange.proofs.Values.{form, Margins, Component, xx, yy, xy}
-
--- what the factors along one axis leave of a dot: the strains along the edges one by one, as the fractions have them
-first : (p q r : Num) → Equal (p ⊠ one ⊞ q ⊠ none ⊞ r ⊠ none) p
-first p q r = omega arith
-
-second : (p q r : Num) → Equal (p ⊠ none ⊞ q ⊠ one ⊞ r ⊠ none) q
-second p q r = omega arith
-
-third : (p q r : Num) → Equal (p ⊠ none ⊞ q ⊠ none ⊞ scale 2 r ⊠ one) (scale 2 (r ⊟ none))
-third p q r = omega arith
-
--- and of a derivative: what the product rule has
-first_by : (s t p q : Num) → Equal (form e_x s t p q) (p ⊠ s)
-first_by s t p q = omega arith
-
-second_by : (s t p q : Num) → Equal (form e_y s t p q) (q ⊠ t)
-second_by s t p q = omega arith
-
-third_by : (s t p q : Num) → Equal (form e_z s t p q) (p ⊠ t ⊞ s ⊠ q)
-third_by s t p q = omega arith
+use Rattle.green_lagrange.proofs.Values.{Margins, Component, xx, yy, xy}
 
 module _ (f : Format) {i j B S : ℕ} (m : Margins f i j B S) (p_ini p_def : List (List Float)) {r : Strain} (is : IsGreenLagrange f p_ini p_def r)
     (rest : is_rest f (2 ^ i) (2 ^ j) (plane.corners_of p_ini) ≡ true) (deformed : is_whole f B (space.corners_of p_def) ≡ true) where
@@ -147,9 +128,9 @@ module _ (f : Format) {i j B S : ℕ} (m : Margins f i j B S) (p_ini p_def : Lis
   unfolding rest_of_green_lagrange values_of w_of
   book = record {
     accepts = accepts;
-    xx = rw w_is (is_fraction f x.is (reads_half (reads_minus (dot_reads column_x column_x) (reads_one (a * a)))) (first _ _ _));
-    yy = rw w_is (is_fraction f y.is (reads_half (reads_minus (dot_reads column_y column_y) (reads_one (b * b)))) (second _ _ _));
-    xy = rw w_is (is_fraction f z.is (reads_times _ (reads_half (reads_minus (dot_reads column_x column_y) (reads_none (a * b))))) (third _ _ _));
+    xx = rw w_is (is_fraction f x.is (reads_half (reads_minus (dot_reads column_x column_x) (identity_xx (a * a)))) (first _ _ _));
+    yy = rw w_is (is_fraction f y.is (reads_half (reads_minus (dot_reads column_y column_y) (identity_yy (b * b)))) (second _ _ _));
+    xy = rw w_is (is_fraction f z.is (reads_times _ (reads_half (reads_minus (dot_reads column_x column_y) (identity_xy (a * b))))) (third _ _ _));
     dxx = λ c axis h k. rw (dw_is, (places _ _ _ c axis h k).0) (is_fraction f (x.by c axis) (reads_product (component_reads column_x axis) (slope_x_lem a b a+ b+ c)) (first_by _ _ _ _));
     dyy = λ c axis h k. rw (dw_is, (places _ _ _ c axis h k).1) (is_fraction f (y.by c axis) (reads_product (component_reads column_y axis) (slope_y_lem a b a+ b+ c)) (second_by _ _ _ _));
     dxy = λ c axis h k. rw (dw_is, (places _ _ _ c axis h k).2) (is_fraction f (z.by c axis)
