@@ -38,7 +38,7 @@ add_all_spec = tie.close (tie.spec
       omega arith,
       refl,
       omega (arith, add.add_triangle.auto),
-      rw (fold_more (name_of a.cells.now) t (add_masses binary64 xy a.thick a.rho) a.vtx2mass-1.now, ← l.loop-t.invariant.3, add.add_triangle.ensures, m.mass-m.ensures, p2.point-p2.ensures, p1.point-p1.ensures, p0.point-p0.ensures, n.names-n.ensures)
+      rw (fold_more (name_of a.cells.now) t (add_masses binary64 xy a.thick a.rho) a.vtx2mass.now, ← l.loop-t.invariant.3, add.add_triangle.ensures, m.mass-m.ensures, p2.point-p2.ensures, p1.point-p1.ensures, p0.point-p0.ensures, n.names-n.ensures)
           (added binary64 _ _ _ _ _ _ _ (vertices_of xy) (l.loop-t.invariant.2 ∙ s.requires.1) (named 0 (omega arith) (omega arith)) (named 1 (omega arith) (omega arith)) (named 2 (omega arith) (omega arith))),
     ))
     (λ c. c.before.loop-t.invariant.2)

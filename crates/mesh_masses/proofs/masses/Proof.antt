@@ -26,35 +26,28 @@ pub masses_spec : {M : Type 1} → statement M
 masses_spec = tie.close (tie.spec
     (λ c. search rules)
     (λ c κs. tt)
-    (λ c. refused_1 binary64 _ _ _ _ _ (c.before.bad_length.ensures ∙ lengths _ _ _) c.if-bad_length.true)
+    (λ c. refused_1 binary64 _ _ _ _ _ (c.bad_length.ensures ∙ lengths _ _ _) c.if-bad_length.true)
     (λ c κs. tt)
-    (λ c. let look = c.before.before in let t1 = look.before in
-    refused_2 binary64 _ _ _ _ _ (t1.before.bad_length.ensures ∙ lengths _ _ _) t1.if-bad_length.false (ap (λ (s : Seen). s.named) look.look-seen.ensures) c.if-not-seen.true)
+    (λ c. refused_2 binary64 _ _ _ _ _ (c.bad_length.ensures ∙ lengths _ _ _) c.if-bad_length.false (ap (λ (s : Seen). s.named) c.look-seen.ensures) c.if-not-seen.true)
     (λ c κs. tt)
     (λ c κs. tt)
-    (λ c. let f = c.before.before in let t2 = f.before.before in let look = t2.before.before in let t1 = look.before in let seen = look.look-seen.ensures in
-    refused_3 binary64 _ _ _ _ _ (t1.before.bad_length.ensures ∙ lengths _ _ _) t1.if-bad_length.false (ap (λ (s : Seen). s.named) seen) t2.if-not-seen.false
-    (bad_input_lem _ _ _ _ seen f.before.is_finite.ensures f.is_finite-2.ensures) c.if-not-is_finite-seen.true)
-    (λ c. let t3 = c.before.before in let f = t3.before.before in let t2 = f.before.before in let look = t2.before.before in let t1 = look.before in let seen = look.look-seen.ensures in
-    refused_6 binary64 _ _ _ _ _ (t1.before.bad_length.ensures ∙ lengths _ _ _) t1.if-bad_length.false (ap (λ (s : Seen). s.named) seen) t2.if-not-seen.false
-    (bad_input_lem _ _ _ _ seen f.before.is_finite.ensures f.is_finite-2.ensures) t3.if-not-is_finite-seen.false (ap (λ (s : Seen). s.unturned) seen) c.if-not-seen-2.true)
+    (λ c. let seen = c.look-seen.ensures in
+    refused_3 binary64 _ _ _ _ _ (c.bad_length.ensures ∙ lengths _ _ _) c.if-bad_length.false (ap (λ (s : Seen). s.named) seen) c.if-not-seen.false
+    (bad_input_lem _ _ _ _ seen c.is_finite.ensures c.is_finite-2.ensures) (ap not c.if-not-is_finite-seen.true))
+    (λ c. let seen = c.look-seen.ensures in
+    refused_6 binary64 _ _ _ _ _ (c.bad_length.ensures ∙ lengths _ _ _) c.if-bad_length.false (ap (λ (s : Seen). s.named) seen) c.if-not-seen.false
+    (bad_input_lem _ _ _ _ seen c.is_finite.ensures c.is_finite-2.ensures) (ap not c.if-not-is_finite-seen.false) (ap (λ (s : Seen). s.unturned) seen) c.if-not-seen-2.true)
     (λ c κs. tt)
-    (λ c κs. let clear = c.before.before.before in let t6 = clear.before.before in let t3 = t6.before.before in let f = t3.before.before in let t2 = f.before.before in
-    let look = t2.before.before in let t1 = look.before in
-    (sym (ap (λ (s : Seen). s.named) look.look-seen.ensures) ∙ not-false _ t2.if-not-seen.false, rw vertices (clear.clear.auto.0 ∙ (sized _ _ _ (sym t1.before.bad_length.ensures ∙ t1.if-bad_length.false)).1)))
+    (λ c κs. (sym (ap (λ (s : Seen). s.named) c.look-seen.ensures) ∙ not-false _ c.if-not-seen.false, rw vertices (c.clear.auto.xs ∙ (sized _ _ _ (sym c.bad_length.ensures ∙ c.if-bad_length.false)).1)))
     (λ c κs. tt)
     (λ c κs. tt)
     (λ c. search rules)
-    (λ c. let again = c.before.before in let t5 = again.before.before in let add = t5.before.before.before.before.before in
-    let clear = add.before.before.before.before in let t6 = clear.before.before in let t3 = t6.before.before in let f = t3.before.before in let t2 = f.before.before in
-    let look = t2.before.before in let t1 = look.before in let seen = look.look-seen.ensures in
-    refused_5 binary64 _ _ _ _ _ (t1.before.bad_length.ensures ∙ lengths _ _ _) t1.if-bad_length.false (ap (λ (s : Seen). s.named) seen) t2.if-not-seen.false
-    (bad_input_lem _ _ _ _ seen f.before.is_finite.ensures f.is_finite-2.ensures) t3.if-not-is_finite-seen.false (ap (λ (s : Seen). s.unturned) seen) t6.if-not-seen-2.false
-    clear.clear.ensures add.add_all.ensures t5.before.all_finite.ensures t5.if-not-all_finite.true (omega (arith, add.add_all.auto, clear.clear.auto)) again.clear-then-not-all_finite.ensures)
+    (λ c. let seen = c.look-seen.ensures in
+    refused_5 binary64 _ _ _ _ _ (c.bad_length.ensures ∙ lengths _ _ _) c.if-bad_length.false (ap (λ (s : Seen). s.named) seen) c.if-not-seen.false
+    (bad_input_lem _ _ _ _ seen c.is_finite.ensures c.is_finite-2.ensures) (ap not c.if-not-is_finite-seen.false) (ap (λ (s : Seen). s.unturned) seen) c.if-not-seen-2.false
+    c.clear.ensures c.add_all.ensures c.all_finite.ensures c.if-not-all_finite.true (omega (arith, c.add_all.auto.vtx2mass, c.clear.auto.xs)) c.clear-then-not-all_finite.ensures)
     (λ c. search rules)
-    (λ c. let add = c.before.before.before.before.before in
-    let clear = add.before.before.before.before in let t6 = clear.before.before in let t3 = t6.before.before in let f = t3.before.before in let t2 = f.before.before in
-    let look = t2.before.before in let t1 = look.before in let seen = look.look-seen.ensures in
-    done binary64 _ _ _ _ _ (t1.before.bad_length.ensures ∙ lengths _ _ _) t1.if-bad_length.false (ap (λ (s : Seen). s.named) seen) t2.if-not-seen.false
-    (bad_input_lem _ _ _ _ seen f.before.is_finite.ensures f.is_finite-2.ensures) t3.if-not-is_finite-seen.false (ap (λ (s : Seen). s.unturned) seen) t6.if-not-seen-2.false
-    clear.clear.ensures add.add_all.ensures c.before.all_finite.ensures c.if-not-all_finite.false))
+    (λ c. let seen = c.look-seen.ensures in
+    done binary64 _ _ _ _ _ (c.bad_length.ensures ∙ lengths _ _ _) c.if-bad_length.false (ap (λ (s : Seen). s.named) seen) c.if-not-seen.false
+    (bad_input_lem _ _ _ _ seen c.is_finite.ensures c.is_finite-2.ensures) (ap not c.if-not-is_finite-seen.false) (ap (λ (s : Seen). s.unturned) seen) c.if-not-seen-2.false
+    c.clear.ensures c.add_all.ensures c.all_finite.ensures c.if-not-all_finite.false))

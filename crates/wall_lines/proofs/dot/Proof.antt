@@ -11,7 +11,6 @@ dot_spec = tie.close (tie.spec
     (λ c κs. search rules)
     (λ c κs. search rules)
     (λ c. search rules)
-    (λ c. search rules)
     (λ c κs. search rules)
     (λ c. search rules)
     (λ c. let r = c.before.before.before.before.before.before.before.before in let m = r.before.before in let y = m.before in

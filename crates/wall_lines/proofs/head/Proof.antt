@@ -13,7 +13,6 @@ head_spec = tie.close (tie.spec
     (λ c κs. search rules)
     (λ c κs. search rules)
     (λ c. search rules)
-    (λ c. search rules)
     (λ c κs. search rules)
     (λ c. search rules)
     (λ c. let k = c.before.before.before.before.before.before.before.before in let total = k.before.before in let area = total.before in let m = area.before in

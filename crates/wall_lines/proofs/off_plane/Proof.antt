@@ -7,7 +7,6 @@ pub off_plane_spec : {M : Type 1} → statement M
 off_plane_spec = tie.close (tie.spec
     (λ c κs. search rules)
     (λ c κs. search rules)
-    (λ c. search rules)
     (λ c κs. search rules)
     (λ c. search rules)
     (λ c κs. search rules)

@@ -7,7 +7,6 @@ pub outline_spec : {M : Type 1} → statement M
 outline_spec = tie.close (tie.spec
     (λ c κs. search rules)
     (λ c. search rules)
-    (λ c. search rules)
     (λ c κs. search rules)
     (λ c. search rules)
     (λ c. let fill = c.before.before in

@@ -7,7 +7,6 @@ pub sizes_spec : {M : Type 1} → statement M
 sizes_spec = tie.close (tie.spec
     (λ c κs. search rules)
     (λ c. search rules)
-    (λ c. search rules)
     (λ c κs. search rules)
     (λ c. search rules)
     (λ c. rw (← c.before.before.before.before.before.before.before.before.edge-d.ensures) c.before.before.fill.ensures))

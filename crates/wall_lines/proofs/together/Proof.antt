@@ -5,7 +5,6 @@ use Rattle.wall_lines.proofs.together.Tie as tie
 
 pub together_spec : {M : Type 1} → statement M
 together_spec = tie.close (tie.spec
-    (λ c. search rules)
     (λ c κs. search rules)
     (λ c. search rules)
     (λ c κs. search rules)

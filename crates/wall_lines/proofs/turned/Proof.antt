@@ -13,7 +13,6 @@ turned_spec = tie.close (tie.spec
     (λ c κs. search rules)
     (λ c κs. search rules)
     (λ c. search rules)
-    (λ c. search rules)
     (λ c κs. search rules)
     (λ c. search rules)
     (λ c. let k = c.before.before.before.before.before.before in let k3 = k.before.before in let k2 = k3.before.before in let k1 = k2.before.before in
