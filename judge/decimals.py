@@ -1,7 +1,7 @@
 #!/usr/bin/env python3
 """decimals.py [COUNT] [SEED]: numbers shown and texts read by the crate decimal, each compared with exact fractions.
 
-Checks and builds the two programs of judge/try in a temporary copy of the crates, feeds each COUNT records (100,000 by default), and compares every byte.
+Proves and builds the two programs of judge/try (Rattle source, kept as text) in a temporary copy of the crates, feeds each COUNT records (100,000 by default), and compares every byte.
 """
 import os
 import random
@@ -19,13 +19,17 @@ TRIES = ["decimal_show", "decimal_read"]
 
 def built(folder):
     """The programs, proved and built in a copy of the crates."""
-    shutil.copytree(os.path.join(ROOT, "crates"), os.path.join(folder, "crates"), ignore=shutil.ignore_patterns("must-fail"))
-    for name in TRIES:
-        shutil.copytree(os.path.join(ROOT, "judge", "try", name), os.path.join(folder, "crates", name))
+    shutil.copytree(os.path.join(ROOT, "crates"), os.path.join(folder, "crates"), ignore=shutil.ignore_patterns("must-fail", "out"))
     lines = open(os.path.join(ROOT, "crates.txt")).read()
-    open(os.path.join(folder, "crates.txt"), "w").write(lines + "".join("%s: float decimal io libc\n" % name for name in TRIES))
-    subprocess.run(["rt", "check"] + TRIES, cwd=folder, check=True, stdout=subprocess.DEVNULL)
-    return [os.path.join(folder, "target", "bin", name) for name in TRIES]
+    open(os.path.join(folder, "crates.txt"), "w").write(lines + "".join("%s: float decimal\n" % name for name in TRIES))
+    programs = []
+    for name in TRIES:
+        crate = os.path.join(folder, "crates", name)
+        os.makedirs(os.path.join(crate, "src"))
+        shutil.copy(os.path.join(ROOT, "judge", "try", name, "src", "main.rt.txt"), os.path.join(crate, "src", "main.rt"))
+        subprocess.run(["rt", "run"], cwd=crate, check=True, stdin=subprocess.DEVNULL, stdout=subprocess.DEVNULL)
+        programs.append(os.path.join(crate, "out", name))
+    return programs
 
 
 def bits(x):
