@@ -45,9 +45,9 @@ masses_spec = tie.close (tie.spec
     (λ c. let seen = c.look-seen.ensures in
     refused_5 binary64 _ _ _ _ _ (c.bad_length.ensures ∙ lengths _ _ _) c.if-bad_length.false (ap (λ (s : Seen). s.named) seen) c.if-not-seen.false
     (bad_input_lem _ _ _ _ seen c.is_finite.ensures c.is_finite-2.ensures) (ap not c.if-not-is_finite-seen.false) (ap (λ (s : Seen). s.unturned) seen) c.if-not-seen-2.false
-    c.clear.ensures c.add_all.ensures c.all_finite.ensures c.if-not-all_finite.true (omega (arith, c.add_all.auto.vtx2mass, c.clear.auto.xs)) c.clear-then-not-all_finite.ensures)
+    c.clear.ensures c.add_all.ensures c.all_finite.ensures (ap not c.if-not-all_finite.true) (omega (arith, c.add_all.auto.vtx2mass, c.clear.auto.xs)) c.clear-then-not-all_finite.ensures)
     (λ c. search rules)
     (λ c. let seen = c.look-seen.ensures in
     done binary64 _ _ _ _ _ (c.bad_length.ensures ∙ lengths _ _ _) c.if-bad_length.false (ap (λ (s : Seen). s.named) seen) c.if-not-seen.false
     (bad_input_lem _ _ _ _ seen c.is_finite.ensures c.is_finite-2.ensures) (ap not c.if-not-is_finite-seen.false) (ap (λ (s : Seen). s.unturned) seen) c.if-not-seen-2.false
-    c.clear.ensures c.add_all.ensures c.all_finite.ensures c.if-not-all_finite.false))
+    c.clear.ensures c.add_all.ensures c.all_finite.ensures (ap not c.if-not-all_finite.false)))
