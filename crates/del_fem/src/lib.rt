@@ -1,5 +1,7 @@
 // What C and Rust link: each routine under one name that begins with del_fem_, corners by reference, a material as a word and four numbers, values into a lent array, the refusal number
 // returned (include/del_fem.h).
+#![tactic(auto)]
+
 ghost use Rattle.std.specs.Prelude.{◌≡◌};
 ghost use Rattle.std.specs.Float.{binary64};
 ghost use Rattle.root.specs.Root.{SquareRoot, SquareRootWord};

@@ -1,4 +1,6 @@
 // Lists of numbers: finite tests and clearing.
+#![tactic(auto)]
+
 ghost use Rattle.std.specs.Prelude.{◌≡◌};
 ghost use Rattle.std.specs.Float.{binary64};
 ghost use Rattle.float.specs.Lists.{all_finite, cleared};

@@ -1,4 +1,6 @@
 // The lumped masses of a panel whose points and cells are the blocks of a mesh file, read where they lie: no list of names or coordinates is made.
+#![tactic(auto)]
+
 ghost use Rattle.std.specs.Prelude.{◌≡◌, true, ◌*◌, length};
 ghost use Rattle.std.specs.Float.{binary64};
 ghost use Rattle.refusal.specs.Panel.{names_below};

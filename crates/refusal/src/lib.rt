@@ -1,4 +1,6 @@
 // The refusal numbers of 01-scope 2.1, the ladder that picks one, the answers that several kernels share, and the tests of a panel's or a skin's lists.
+#![tactic(auto)]
+
 ghost use Rattle.std.specs.Prelude.{◌≡◌, cond};
 ghost use Rattle.std.specs.Float.{binary64};
 ghost use Rattle.refusal.specs.Refusal.{kernel_number};

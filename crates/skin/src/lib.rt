@@ -1,4 +1,6 @@
 // The StVK energy of a whole skin, with its gradient: what `stvk_tri3::wdwddw_` gives for each triangle, added in the list's order from +0.
+#![tactic(auto)]
+
 ghost use Rattle.std.specs.Prelude.{◌≡◌, ◌+◌, ◌*◌, ◌<◌, length};
 ghost use Rattle.std.specs.Float.{binary64};
 ghost use Rattle.refusal.specs.Refusal.{Clear};

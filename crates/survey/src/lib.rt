@@ -1,4 +1,6 @@
 // What is measured of a wall before and after it is weighed, from the blocks of its mesh file and its masses: what is wrong with it first, how large it is, and what a row of points carries.
+#![tactic(auto)]
+
 ghost use Rattle.survey.specs.Survey;
 ghost use Rattle.std.specs.Prelude.{◌≡◌, ◌+◌, ◌≤◌, ◌<◌, length};
 ghost use Rattle.survey.specs.Survey.{point_of, triangle_of, is_inside, IsOutside, IsOffPlane, IsTurned};

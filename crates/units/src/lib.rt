@@ -1,4 +1,6 @@
 // Which numbers a person is shown as decimals: whole multiples of 2^-10 of size below 2^40.
+#![tactic(auto)]
+
 ghost use Rattle.std.specs.Prelude.{◌%◌, ◌^◌};
 ghost use Rattle.units.specs.Units.{IsScaled};
 

@@ -1,4 +1,6 @@
 // The lines that `wall` prints, from the blocks of a wall's file and its masses: each as a template with its numbers put in (docs/WALL.md).
+#![tactic(auto)]
+
 ghost use Rattle.std.specs.Prelude.{◌≡◌};
 ghost use Rattle.wall_lines.specs.Lines.{IsHead, IsRow, IsTogether, IsPoint, edge_of, IsSvg, IsOutline, radius_of, IsDot, IsSizes, IsOutside, IsOffPlane, IsTurned};
 
