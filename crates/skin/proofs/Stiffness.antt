@@ -17,7 +17,7 @@ use Rattle.material.specs.Material.{is_bad_of, tested_of}
 use Rattle.material.specs.declared.Material.{Material}
 use Rattle.material.specs.declared.Stiffness.{Stiffness}
 use Rattle.stvk_tri3.specs.Stvk.{tests_of, stvk_of}
-use Rattle.skin.specs.Sums.{Kernel, numbers_of, energy_of}
+use Rattle.skin.specs.Sums.{Kernel, numbers_of}
 use Rattle.skin.specs.Skin.{answer_of, IsSkin, FirstBad}
 use Rattle.skin.specs.declared.Skin.{Skin}
 use Rattle.skin.proofs.SkinAnswer.{unique, early, late, numbers_exactly}

@@ -1,5 +1,5 @@
 -- The lines that `wall` prints (docs/WALL.md), as templates with their numbers. Coordinates are in mm, masses in mg, areas in mm2: `%pk` says how many decimals of that are counted, and how many digits stand behind the point.
-use Rattle.std.specs.Prelude.{◌≡◌, cond, List, [], ◌∷◌, ℕ, ◌/◌, ◌%◌, eqb, Float}
+use Rattle.std.specs.Prelude.{cond, List, [], ◌∷◌, ℕ, ◌/◌, ◌%◌, eqb, Float}
 use Rattle.std.specs.Float.{binary64}
 use Rattle.std.specs.Float.Ieee.{lt, neg, of_bits}
 use Rattle.float.specs.Ops.{ops}
