@@ -30,13 +30,11 @@ module _ (f : List ℕ) (r : Mesh) (h : length f ≤ max_bytes) (e : r ≡ mesh_
 pub numbers_spec : {M : Type 1} → statement M
 numbers_spec = tie.close (tie.spec
     (λ c. search rules)
-    (λ c. record { many = omega arith; are = longer _ c.if1.true })
+    (λ c. record { many = omega arith; are = longer _ (omega arith) })
     (λ c κs. tt)
     (λ c. search rules)
     (λ c. search rules)
     (λ c. search rules)
     (λ c. search rules)
-    (λ c. let n = c.before in let read = n.before.before in
-    record { many = omega arith; are = counts _ _ (omega arith) read.read.ensures _ _ _ _ _ n.n.given.1 })
-    (λ c. let place = c.before in let read = place.before.before in
-    record { many = omega arith; are = wrong _ _ (omega arith) read.read.ensures _ place.place.given.1 }))
+    (λ c. record { many = omega arith; are = counts _ _ (omega arith) c.read.ensures _ _ _ _ _ c.in-Read.is })
+    (λ c. record { many = omega arith; are = wrong _ _ (omega arith) c.read.ensures _ c.in-Refused.is }))
