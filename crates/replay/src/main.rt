@@ -7,7 +7,7 @@ ghost use Rattle.std.specs.Prelude.{◌≤◌};
 mod helpers;
 mod input;
 mod kernels;
-mod lists;
+mod list_records;
 mod output;
 
 use std::io;
@@ -91,8 +91,8 @@ fn replay_helper(rt: &impl Print, stdin: &mut impl io::Read) -> io::Result<bool>
 fn replay(rt: &impl Print, stdin: &mut impl io::Read, kind: u64) -> io::Result<bool> {
     match kind {
         ROOT => replay_root(rt, stdin),
-        MASSES => lists::is_answered(rt, stdin, false),
-        SKIN => lists::is_answered(rt, stdin, true),
+        MASSES => list_records::is_answered(rt, stdin, false),
+        SKIN => list_records::is_answered(rt, stdin, true),
         HELPER => replay_helper(rt, stdin),
         _ => replay_kernel(rt, stdin, kind),
     }
