@@ -30,7 +30,7 @@ refusals = record {
     exactly = strain.numbers_exactly binary64 (rest_of binary64) p_ini p_def;
     zero_values = λ is h. let v = strain.refused_values binary64 (rest_of binary64) p_ini p_def is h in rw (v.0, v.1);
   };
-  green_lagrange_lem = λ p_ini p_def. record {
+  green_lagrange = λ p_ini p_def. record {
     exactly = strain.numbers_exactly binary64 (rest_of_green_lagrange binary64) p_ini p_def;
     zero_values = λ is h. let v = strain.refused_values binary64 (rest_of_green_lagrange binary64) p_ini p_def is h in rw (v.0, v.1);
   };
@@ -60,13 +60,13 @@ numbers = record {
   root = λ x is. is.rule;
   one_root = root.unique binary64;
   root_word = λ w is. is.rule;
-  nan_word_lem = λ w is a. is.same ∙ nan_word_lem binary64 w a;
+  nan_word = λ w is a. is.same ∙ nan_word_lem binary64 w a;
   bending = λ p_ini p_def. record { bits = bending.accepted_values binary64 p_ini p_def; only = bending.unique binary64 p_ini p_def };
   strain = λ p_ini p_def. record {
     bits = λ is h. let v = strain.accepted_values binary64 (rest_of binary64) p_ini p_def is h in rw (v.0, v.1);
     only = strain.unique binary64 (rest_of binary64) p_ini p_def;
   };
-  green_lagrange_lem = λ p_ini p_def. record {
+  green_lagrange = λ p_ini p_def. record {
     bits = λ is h. let v = strain.accepted_values binary64 (rest_of_green_lagrange binary64) p_ini p_def is h in rw (v.0, v.1);
     only = strain.unique binary64 (rest_of_green_lagrange binary64) p_ini p_def;
   };

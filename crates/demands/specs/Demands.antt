@@ -100,7 +100,7 @@ pub record Demand1 : Type 0 where
       → BendingRefuses (bendings.IsBending binary64 p_ini p_def) (bendings.tests_of binary64 (bendings.corners_of p_ini) (bendings.corners_of p_def))
   pub strain : (p_ini p_def : List (List Float)) → let ini = plane.corners_of p_ini in
       StrainRefuses (strains.IsStrain binary64 p_ini p_def) (strains.tests_of binary64 ini (space.corners_of p_def) (rest_of binary64 ini))
-  pub green_lagrange_lem : (p_ini p_def : List (List Float)) → let ini = plane.corners_of p_ini in
+  pub green_lagrange : (p_ini p_def : List (List Float)) → let ini = plane.corners_of p_ini in
       StrainRefuses (IsGreenLagrange binary64 p_ini p_def) (strains.tests_of binary64 ini (space.corners_of p_def) (rest_of_green_lagrange binary64 ini))
   pub stvk : (p0 p1 : List (List Float)) (m : Material)
       → EnergyRefuses (stvks.IsStvk binary64 p0 p1 m) (stvks.tests_of binary64 (space.corners_of p0) (space.corners_of p1) m.stiffness)
@@ -128,11 +128,11 @@ pub record Demand2 : Type 0 where
   pub root : (x : Float) {r : Float} → SquareRoot binary64 x r → IsRoot binary64 x r
   pub one_root : (x r q : Float) → IsRoot binary64 x r → IsRoot binary64 x q → r ≡ q
   pub root_word : (w : ℕ) {r : ℕ} → SquareRootWord binary64 w r → IsRoot binary64 (of_bits binary64 w) (of_bits binary64 r)
-  pub nan_word_lem : (w : ℕ) {r : ℕ} → SquareRootWord binary64 w r → IsRoot binary64 (of_bits binary64 w) nan → r ≡ 0x7ff8_0000_0000_0000
+  pub nan_word : (w : ℕ) {r : ℕ} → SquareRootWord binary64 w r → IsRoot binary64 (of_bits binary64 w) nan → r ≡ 0x7ff8_0000_0000_0000
   pub bending : (p_ini p_def : List (List Float)) → BendingGives (bendings.IsBending binary64 p_ini p_def) (wdw_of binary64 (bendings.corners_of p_ini) (bendings.corners_of p_def))
   pub strain : (p_ini p_def : List (List Float))
       → StrainGives (strains.IsStrain binary64 p_ini p_def) (values_of binary64 (rest_of binary64 (plane.corners_of p_ini)) (space.corners_of p_def))
-  pub green_lagrange_lem : (p_ini p_def : List (List Float))
+  pub green_lagrange : (p_ini p_def : List (List Float))
       → StrainGives (IsGreenLagrange binary64 p_ini p_def) (values_of binary64 (rest_of_green_lagrange binary64 (plane.corners_of p_ini)) (space.corners_of p_def))
   -- on the material's lambda and myu: a Lamé pair as it is, or the pair that is computed of Young's modulus and Poisson's ratio
   pub stvk : (p0 p1 : List (List Float)) (m : Material) → let lame = lame_of binary64 m.stiffness in
