@@ -20,16 +20,17 @@ TRIES = ["decimal_show", "decimal_read"]
 def built(folder):
     """The programs, proved and built in a copy of the crates."""
     shutil.copytree(os.path.join(ROOT, "crates"), os.path.join(folder, "crates"), ignore=shutil.ignore_patterns("must-fail", "out"))
-    lines = open(os.path.join(ROOT, "crates.txt")).read()
-    open(os.path.join(folder, "crates.txt"), "w").write(lines + "".join("%s: float decimal\n" % name for name in TRIES))
-    programs = []
-    for name in TRIES:
-        crate = os.path.join(folder, "crates", name)
+    crates = [os.path.join(folder, "crates", name) for name in TRIES]
+    for name, crate in zip(TRIES, crates):
         os.makedirs(os.path.join(crate, "src"))
         shutil.copy(os.path.join(ROOT, "judge", "try", name, "src", "main.rt.txt"), os.path.join(crate, "src", "main.rt"))
-        subprocess.run(["rt", "run"], cwd=crate, check=True, stdin=subprocess.DEVNULL, stdout=subprocess.DEVNULL)
-        programs.append(os.path.join(crate, "out", name))
-    return programs
+    lines = open(os.path.join(ROOT, "crates.txt")).read()
+    open(os.path.join(folder, "crates.txt"), "w").write(lines + "".join("%s: float decimal\n" % name for name in TRIES))
+    for crate in crates:
+        done = subprocess.run(["rt", "run"], cwd=crate, stdin=subprocess.DEVNULL, capture_output=True, text=True)
+        if done.returncode != 0:
+            sys.exit(done.stderr)
+    return [os.path.join(crate, "out", name) for name, crate in zip(TRIES, crates)]
 
 
 def bits(x):
