@@ -1,13 +1,18 @@
 // Sizes walls from their mesh files and prints them for a person, a spreadsheet, a picture or another program: docs/WALL.md.
-ghost use Rattle.std.specs.Prelude.{◌≡◌, length};
+#![tactic(auto)]
+
+ghost use Rattle.std.specs.Prelude.{◌≡◌, ◌≤◌, length};
+ghost use Rattle.std.specs.Io.{ReadsAtMost};
 
 mod answer;
 mod misread;
 mod setting;
 
-use libc::{STDIN_FILENO, STDOUT_FILENO};
 use mesh::Found;
 use setting::Setting;
+use std::env::FillError;
+use std::rt::{Env, Files};
+use std::{fs, io, str};
 
 // The longest file that is read. One byte more is asked for, so that a longer one is told from it.
 const MAX_BYTES: usize = 4_194_681;
@@ -15,22 +20,23 @@ const MAX_BYTES: usize = 4_194_681;
 const HELP: [u8; 680] =
     *b"wall [label|all|picture|vtk|help] [FILE ..] [word=value ..]\nSizes the walls of mesh files, or the wall on standard input: binary VTK, version 3.0, triangles, millimetres.\n  label     what it weighs and what its hinge row carries; this where none of the five is said\n  all       a line for every point, for a spreadsheet\n  picture   an SVG picture, of one file\n  vtk       the file with its masses, of one file\n  density=1400         kg/m3\n  thickness=1.953125   mm\n  young=2147.483648    MPa, for what uses it later\n  poisson=0.25         for what uses it later\n  row=bottom           the hinge row: left, right, top or bottom\nAn answer that begins with 'refused: ' is a refusal.\n";
 
-pub(crate) fn text(bytes: &[u8]) {
-    io::write_all(STDOUT_FILENO, bytes);
+pub(crate) fn text(rt: &impl Print, bytes: &[u8]) -> io::Result<()> {
+    rt.write_all(bytes)
 }
 
 // The first n bytes of a line.
-pub(crate) fn put(line: &[u8], n: usize) {
+pub(crate) fn put(rt: &impl Print, line: &[u8], n: usize) -> io::Result<()> {
     if n <= line.len() {
-        text(&line[0..n]);
+        return text(rt, &line[0..n]);
     }
+    Ok(())
 }
 
 // The beginning of every refusal of a file.
-pub(crate) fn refused(name: &[u8]) {
-    text(b"refused: ");
-    text(name);
-    text(b": ");
+pub(crate) fn refused(rt: &impl Print, name: &[u8]) -> io::Result<()> {
+    text(rt, b"refused: ")?;
+    text(rt, name)?;
+    text(rt, b": ")
 }
 
 fn file_space() -> [u8; 4_194_682]
@@ -39,13 +45,13 @@ fn file_space() -> [u8; 4_194_682]
     [0; 4_194_682]
 }
 
-fn wall(name: &[u8], s: Setting, file: &[u8]) {
+fn wall(rt: &impl Print, name: &[u8], s: Setting, file: &[u8]) -> io::Result<()> {
     if MAX_BYTES < file.len() {
-        refused(name);
-        text(
+        refused(rt, name)?;
+        return text(
+            rt,
             b"has more than 4194681 bytes, the most that 65536 points and 131072 triangles take\n",
         );
-        return;
     }
     match mesh::read_parts(file) {
         Found::Whole {
@@ -55,14 +61,16 @@ fn wall(name: &[u8], s: Setting, file: &[u8]) {
             cells,
             types: _,
         } => answer::look(
+            rt,
             name,
             s,
             file,
             &file[points..points + 24 * n],
             &file[cells..cells + 16 * m],
         ),
-        Found::InLines(place) => misread::in_lines(name, file, place),
+        Found::InLines(place) => misread::in_lines(rt, name, file, place),
         Found::InPoints { n, at, place } => misread::in_block(
+            rt,
             name,
             file,
             place,
@@ -74,8 +82,9 @@ fn wall(name: &[u8], s: Setting, file: &[u8]) {
             b"in the line after the points",
             b": 'CELLS m 4m', m at most 131072, is wanted",
         ),
-        Found::InCells { n, m, at, place } => misread::in_cells(name, file, n, m, at, place),
+        Found::InCells { n, m, at, place } => misread::in_cells(rt, name, file, n, m, at, place),
         Found::InTypes { m, at, place } => misread::in_block(
+            rt,
             name,
             file,
             place,
@@ -90,20 +99,36 @@ fn wall(name: &[u8], s: Setting, file: &[u8]) {
     }
 }
 
-// What the descriptor gives. A read fails of a folder, and then gives no byte either.
-fn load(name: &[u8], s: Setting, fd: i32) {
-    let mut space = file_space();
-    let n = io::read_full(fd, &mut space);
-    if 0 < n {
-        wall(name, s, &space[..n]);
-        return;
+// Reads until the bytes are full or the input ends, and answers how many were read.
+fn read_full(input: &mut impl io::Read, bytes: &mut [u8]) -> io::Result<usize>
+    ensures { ReadsAtMost result bytes.new }
+{
+    let mut done = 0;
+    while done < bytes.len() {
+        let n = input.read(&mut bytes[done..])?;
+        if n == 0 {
+            break;
+        }
+        done += n;
     }
-    refused(name);
-    let mut one = [0u8; 1];
-    if libc::read(fd, &mut one) < 0 {
-        text(b"cannot be read\n");
-    } else {
-        text(b"is empty\n");
+    Ok(done)
+}
+
+// What the input gives. A read fails of a folder.
+fn load(rt: &impl Print, name: &[u8], s: Setting, input: &mut impl io::Read) -> io::Result<()> {
+    let mut space = file_space();
+    match read_full(input, &mut space) {
+        Ok(n) => {
+            if 0 < n {
+                return wall(rt, name, s, &space[..n]);
+            }
+            refused(rt, name)?;
+            text(rt, b"is empty\n")
+        }
+        Err(_) => {
+            refused(rt, name)?;
+            text(rt, b"cannot be read\n")
+        }
     }
 }
 
@@ -116,53 +141,81 @@ fn make_visible(name: &mut [u8]) {
     }
 }
 
-// Argument i, where it is a file's name. Answers whether one came so far.
-fn file(s: Setting, i: usize, before: bool) -> bool {
-    let mut space = io::buffer();
-    let n = os::arg(i, &mut space);
-    if !setting::is_file(i, &space[..n]) {
-        return before;
+// How many arguments there are, the program's name among them.
+pub(crate) fn arg_count(env: &impl Env) -> usize {
+    let mut one = [0u8; 1];
+    for i in 0..usize::MAX {
+        if matches!(env.arg(i, &mut one), Err(FillError::NotPresent)) {
+            return i;
+        }
     }
-    if before {
-        text(b"\n");
-    }
-    let fd = os::open_read(&space[..n]);
-    make_visible(&mut space[..n]);
-    if fd < 0 {
-        refused(&space[..n]);
-        text(b"cannot be opened\n");
-        os::fail(&space[..n]);
-        return true;
-    }
-    load(&space[..n], s, fd);
-    libc::close(fd);
-    true
+    usize::MAX
 }
 
-fn main() {
-    let s = setting::read();
-    let count = os::arg_count();
+// Puts argument i at the start of the space and answers its length, 0 where it is missing or longer than the space.
+pub(crate) fn arg(env: &impl Env, i: usize, space: &mut [u8]) -> usize
+    ensures { result ≤ length space.new }
+{
+    env.arg(i, space).unwrap_or(0)
+}
+
+// A name that is no text names no file here.
+fn open<R: Files>(files: &R, name: &[u8]) -> io::Result<R::File> {
+    match str::from_utf8(name) {
+        Ok(path) => fs::open(files, path),
+        Err(_) => Err(io::Error::from(io::ErrorKind::InvalidFilename)),
+    }
+}
+
+// Argument i, where it is a file's name. Answers whether one came so far.
+fn file<R: Files + Env + Print + Eprint>(
+    rt: &R,
+    s: Setting,
+    i: usize,
+    before: bool,
+) -> io::Result<bool> {
+    let mut space = [0u8; 4096];
+    let n = arg(rt, i, &mut space);
+    if !setting::is_file(i, &space[..n]) {
+        return Ok(before);
+    }
+    if before {
+        text(rt, b"\n")?;
+    }
+    let opened = open(rt, &space[..n]);
+    make_visible(&mut space[..n]);
+    match opened {
+        Ok(mut input) => load(rt, &space[..n], s, &mut input)?,
+        Err(reason) => {
+            refused(rt, &space[..n])?;
+            text(rt, b"cannot be opened\n")?;
+            eprintln!(rt; "{reason}")?;
+        }
+    }
+    Ok(true)
+}
+
+fn main(rt: HostRuntime) -> io::Result<()> {
+    let s = setting::read(&rt);
+    let count = arg_count(&rt);
     let mut before = false;
     if s.argument != 0 {
-        setting::put_wrong(s);
-        return;
+        return setting::put_wrong(&rt, s);
     }
     if s.help {
-        text(&HELP);
-        return;
+        return text(&rt, &HELP);
     }
     if s.many & s.picture {
-        text(b"refused: picture takes one file\n");
-        return;
+        return text(&rt, b"refused: picture takes one file\n");
     }
     if s.many & s.vtk {
-        text(b"refused: vtk takes one file\n");
-        return;
+        return text(&rt, b"refused: vtk takes one file\n");
     }
     for i in 1..count {
-        before = file(s, i, before);
+        before = file(&rt, s, i, before)?;
     }
     if !before {
-        load(b"standard input", s, STDIN_FILENO);
+        load(&rt, b"standard input", s, &mut rt.stdin())?;
     }
+    Ok(())
 }

@@ -2,34 +2,48 @@
 ghost use Rattle.std.specs.Prelude.{◌<◌};
 
 use crate::{put, refused, text};
+use std::io;
 
 // A template with its numbers.
-fn say(template: &[u8], numbers: &[f64]) {
+fn say(rt: &impl Print, template: &[u8], numbers: &[f64]) -> io::Result<()> {
     let mut line = [0u8; 128];
     let n = lines::fill(template, numbers, &mut line);
-    put(&line, n);
+    put(rt, &line, n)
 }
 
 // A refusal of the file at the place: where it is, by a template with a number, and what is wrong there, which is not said where the file ends at the place.
-fn told(name: &[u8], file: &[u8], place: usize, at: &[u8], number: f64, wrong: &[u8]) {
-    refused(name);
+fn told(
+    rt: &impl Print,
+    name: &[u8],
+    file: &[u8],
+    place: usize,
+    at: &[u8],
+    number: f64,
+    wrong: &[u8],
+) -> io::Result<()> {
+    refused(rt, name)?;
     if place < file.len() {
-        say(b"is wrong at byte %0000, ", &[lines::count(place)]);
-        say(at, &[number]);
-        text(wrong);
+        say(rt, b"is wrong at byte %0000, ", &[lines::count(place)])?;
+        say(rt, at, &[number])?;
+        text(rt, wrong)?;
     } else {
-        say(b"ends early, after %0000 bytes, ", &[lines::count(place)]);
-        say(at, &[number]);
+        say(
+            rt,
+            b"ends early, after %0000 bytes, ",
+            &[lines::count(place)],
+        )?;
+        say(rt, at, &[number])?;
     }
-    text(b"\n");
+    text(rt, b"\n")
 }
 
-pub(crate) fn in_lines(name: &[u8], file: &[u8], place: usize) {
+pub(crate) fn in_lines(rt: &impl Print, name: &[u8], file: &[u8], place: usize) -> io::Result<()> {
     let line = survey::line_of(file, place);
     let number = lines::count(line);
     let at = b"in line %0000";
     match line {
         1 => told(
+            rt,
             name,
             file,
             place,
@@ -38,6 +52,7 @@ pub(crate) fn in_lines(name: &[u8], file: &[u8], place: usize) {
             b": '# vtk DataFile Version 3.0' is wanted",
         ),
         2 => told(
+            rt,
             name,
             file,
             place,
@@ -45,8 +60,9 @@ pub(crate) fn in_lines(name: &[u8], file: &[u8], place: usize) {
             number,
             b": a title of at most 255 bytes is wanted",
         ),
-        3 => told(name, file, place, at, number, b": 'BINARY' is wanted"),
+        3 => told(rt, name, file, place, at, number, b": 'BINARY' is wanted"),
         4 => told(
+            rt,
             name,
             file,
             place,
@@ -55,6 +71,7 @@ pub(crate) fn in_lines(name: &[u8], file: &[u8], place: usize) {
             b": 'DATASET UNSTRUCTURED_GRID' is wanted",
         ),
         _ => told(
+            rt,
             name,
             file,
             place,
@@ -67,6 +84,7 @@ pub(crate) fn in_lines(name: &[u8], file: &[u8], place: usize) {
 
 // A block of so many items of `size` bytes each, from `at` on: the item that the place is in, or what comes after the block.
 pub(crate) fn in_block(
+    rt: &impl Print,
     name: &[u8],
     file: &[u8],
     place: usize,
@@ -77,21 +95,28 @@ pub(crate) fn in_block(
     wrong_inside: &[u8],
     after: &[u8],
     wrong_after: &[u8],
-)
+) -> io::Result<()>
     requires { 0 < size }
 {
     if at <= place {
         let i = (place - at) / size;
         if i < many {
-            told(name, file, place, inside, lines::count(i), wrong_inside);
-            return;
+            return told(rt, name, file, place, inside, lines::count(i), wrong_inside);
         }
     }
-    told(name, file, place, after, 0.0, wrong_after);
+    told(rt, name, file, place, after, 0.0, wrong_after)
 }
 
 // A cell is 3 and three names: of a wrong name it is said what it is.
-pub(crate) fn in_cells(name: &[u8], file: &[u8], n: usize, m: usize, at: usize, place: usize) {
+pub(crate) fn in_cells(
+    rt: &impl Print,
+    name: &[u8],
+    file: &[u8],
+    n: usize,
+    m: usize,
+    at: usize,
+    place: usize,
+) -> io::Result<()> {
     let mut line = [0u8; 64];
     let mut len = lines::fill(b", which is not said to have 3 corners", &[], &mut line);
     if at <= place {
@@ -106,6 +131,7 @@ pub(crate) fn in_cells(name: &[u8], file: &[u8], n: usize, m: usize, at: usize, 
         }
     }
     in_block(
+        rt,
         name,
         file,
         place,
@@ -116,5 +142,5 @@ pub(crate) fn in_cells(name: &[u8], file: &[u8], n: usize, m: usize, at: usize, 
         &line[0..len],
         b"in the line after the triangles",
         b": 'CELL_TYPES m' is wanted",
-    );
+    )
 }

@@ -1,12 +1,14 @@
 // What the arguments say.
 ghost use Rattle.std.specs.Prelude.{◌≡◌, true, ◌≤◌, ◌<◌, length};
 
-use crate::{put, text};
+use crate::{arg, arg_count, put, text};
 use decimal::reading::Number;
+use std::io;
+use std::rt::Env;
 
 // The sheet, in kg/m3, m and Pa, the hinge row by its axis, 0 for x and 1 for y, and which end of it; a bit of `said` for each word that was said; what is to be printed, a label where nothing else is; whether a file is named, and whether more are; and the first argument
 // that is wrong, 0 where none is, with the character and the reason.
-#[derive(Drop)]
+#[derive(Clone, Copy)]
 pub struct Setting {
     pub density: f64,
     pub thickness: f64,
@@ -189,13 +191,13 @@ fn word(s: Setting, i: usize, text: &[u8]) -> Setting {
 }
 
 // Argument i, where all is well so far.
-fn argument(s: Setting, i: usize) -> Setting {
+fn argument(env: &impl Env, s: Setting, i: usize) -> Setting {
     let mut r = s;
     if s.help | (s.argument != 0) {
         return s;
     }
-    let mut space = io::buffer();
-    let n = os::arg(i, &mut space);
+    let mut space = [0u8; 4096];
+    let n = arg(env, i, &mut space);
     if (n == 0) | (4095 < n) {
         return wrong(s, i, 1, NO_LENGTH);
     }
@@ -221,7 +223,7 @@ fn argument(s: Setting, i: usize) -> Setting {
 }
 
 // The stock sheet and the row at the bottom where the arguments say nothing else.
-pub(crate) fn read() -> Setting {
+pub(crate) fn read(env: &impl Env) -> Setting {
     let mut s = Setting {
         density: 1400.0,
         thickness: 0.001953125,
@@ -240,36 +242,38 @@ pub(crate) fn read() -> Setting {
         character: 0,
         why: 0,
     };
-    let count = os::arg_count();
+    let count = arg_count(env);
     for i in 1..count {
-        s = argument(s, i);
+        s = argument(env, s, i);
     }
     s
 }
 
-pub(crate) fn put_wrong(s: Setting) {
+pub(crate) fn put_wrong(rt: &impl Print, s: Setting) -> io::Result<()> {
     let mut line = [0u8; 64];
     let a = lines::count(s.argument);
     let c = lines::count(s.character);
     if s.why == NO_LENGTH {
         let n = lines::fill(b"refused: argument %0000", &[a], &mut line);
-        put(&line, n);
-        text(b" is empty or longer than 4095 bytes\n");
-        return;
+        put(rt, &line, n)?;
+        return text(rt, b" is empty or longer than 4095 bytes\n");
     }
     let n = lines::fill(
         b"refused: argument %0000 is wrong at character %0000: ",
         &[a, c],
         &mut line,
     );
-    put(&line, n);
+    put(rt, &line, n)?;
     let why = s.why;
     match why {
-        NO_WORD => text(b"no such word, see wall help\n"),
-        AGAIN => text(b"this word was said before\n"),
-        NO_DECIMAL => text(b"a decimal of at most 15 digits is wanted, as 1400 or 2.5\n"),
-        NOT_ABOVE => text(b"a number above 0 is wanted\n"),
-        NOT_BELOW => text(b"a number below 0.5 is wanted\n"),
-        _ => text(b"left, right, top or bottom is wanted\n"),
+        NO_WORD => text(rt, b"no such word, see wall help\n"),
+        AGAIN => text(rt, b"this word was said before\n"),
+        NO_DECIMAL => text(
+            rt,
+            b"a decimal of at most 15 digits is wanted, as 1400 or 2.5\n",
+        ),
+        NOT_ABOVE => text(rt, b"a number above 0 is wanted\n"),
+        NOT_BELOW => text(rt, b"a number below 0.5 is wanted\n"),
+        _ => text(rt, b"left, right, top or bottom is wanted\n"),
     }
 }
