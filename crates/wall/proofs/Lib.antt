@@ -1,1 +1,1 @@
-mod WholeFile
+pub mod WholeFile

@@ -45,6 +45,7 @@ fn file_space() -> [u8; 4_194_682]
     [0; 4_194_682]
 }
 
+#[tactic(auto, using(crate::proofs::WholeFile::whole_within))]
 fn wall(rt: &impl Print, name: &[u8], s: Setting, file: &[u8]) -> io::Result<()> {
     if MAX_BYTES < file.len() {
         refused(rt, name)?;
@@ -159,11 +160,19 @@ pub(crate) fn arg(env: &impl Env, i: usize, space: &mut [u8]) -> usize
     env.arg(i, space).unwrap_or(0)
 }
 
-// A name that is no text names no file here.
+// A name that is not UTF-8 cannot be opened.
 fn open<R: Files>(files: &R, name: &[u8]) -> io::Result<R::File> {
     match str::from_utf8(name) {
         Ok(path) => fs::open(files, path),
         Err(_) => Err(io::Error::from(io::ErrorKind::InvalidFilename)),
+    }
+}
+
+// A line to standard error: what failed, a colon and why.
+fn fail(rt: &impl Eprint, name: &[u8], reason: io::Error) -> io::Result<()> {
+    match str::from_utf8(name) {
+        Ok(shown) => eprintln!(rt; "{shown}: {reason}"),
+        Err(_) => eprintln!(rt; "{reason}"),
     }
 }
 
@@ -189,7 +198,7 @@ fn file<R: Files + Env + Print + Eprint>(
         Err(reason) => {
             refused(rt, &space[..n])?;
             text(rt, b"cannot be opened\n")?;
-            eprintln!(rt; "{reason}")?;
+            fail(rt, &space[..n], reason)?;
         }
     }
     Ok(true)
