@@ -1,4 +1,4 @@
--- `unitsOf` follows the rule and counts less than 2^64; which amount it is, by the comparisons that the code makes.
+-- `units_of` follows the rule and counts less than 2^64; which amount it is, by the comparisons that the code makes.
 use mathlib.Core.Path.{◌≡◌, refl, sym, ap, ◌∙◌}
 use mathlib.Core.Bool.{Bool, true, false, not, ◌&&◌, cond, true≢false, not-not}
 use Prim.Native.Nat.{ℕ, zero, suc, ◌+◌, ◌-◌, ◌*◌, ◌/◌, ◌%◌, ◌^◌, ◌≤◌, ◌<◌}

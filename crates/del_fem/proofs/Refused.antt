@@ -1,5 +1,5 @@
 -- When a kernel or a skin behind the border gives 7: the numbers that it reads are finite, and the word is for no stiffness, or for Young's and that one is none that a sheet can have. Masses never
--- give it (`never-7` of mitc_tri3).
+-- give it (`never_7` of mitc_tri3).
 use mathlib.Core.Path.{◌≡◌}
 use mathlib.Core.Bool.{true, ◌&&◌}
 use mathlib.Core.List.{List}

@@ -1,5 +1,5 @@
 -- What an exported kernel gives: its answer's number is returned, and the lent array holds the answer's values one after the other, whatever was in it.
--- The answer is the one that the kernel's own statement names, with +0 throughout after a refusal (01-scope 2.1). A material crosses as a word and four numbers (5.11; `materialOf`).
+-- The answer is the one that the kernel's own statement names, with +0 throughout after a refusal (01-scope 2.1). A material crosses as a word and four numbers (5.11; `material_of`).
 use Rattle.std.specs.Prelude.{◌≡◌, cond, List, [], ◌∷◌, ◌++◌, ℕ, ◌*◌, eqb, Float}
 use Rattle.std.specs.Float.{Format}
 use Rattle.refusal.specs.Refusal.{accepted}

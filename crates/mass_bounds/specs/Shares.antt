@@ -37,7 +37,7 @@ module _ (f : Format) where
   weight zero thick rho = value f rho ⊠ value f thick
   weight (suc k) thick rho = value f rho ⊠ (value f thick ⊠ value f thick ⊠ value f thick)
 
-  -- a triangle's share is exactShare / over: over 6, or 72, and in a stored number's units
+  -- a triangle's share is exact_share / over: over 6, or 72, and in a stored number's units
   unfoldable pub exact_share : (k : ℕ) (thick rho : Float) → Tri2 → Num
   exact_share k thick rho p = twice_area p ⊠ weight k thick rho
 

@@ -83,7 +83,7 @@ module _ (f : Format) (p u : List (List Float)) where
     unfolding tests_of plate_of
     young_is_lame h other = is ∙ young.young_lame f e v _ _ _ numbers h (rw is at other)
 
-    -- finite or not: once E and v are taken, 6, 4 and 5 are left, never 3 (`taken-never-3`), by the source's numbers on the pair
+    -- finite or not: once E and v are taken, 6, 4 and 5 are left, never 3 (`taken_never_3`), by the source's numbers on the pair
     pub young_taken : plane.is_finite_of (plane.corners_of p) && space.is_finite_of (space.corners_of u) && finite thickness ≡ true → is_finite_of (Young e v) ≡ true → is_bad_of f (Young e v) ≡ false
         → r ≡ taken_of f (turns_right f (plane.corners_of p)) (divisor_is_zero f (plane.corners_of p) thickness) (numbers pair)
     unfolding tests_of plate_of

@@ -177,7 +177,7 @@ module _ {P c K : ℕ} {x y : Num} where
       above Q g W Y q h k w (inl z) = absurd (omega (arith, mul-pos w q, mul-le-mul_right (Q + c) h, ap (λ (t : ℕ). t * c) z, ap (λ (t : ℕ). t * Q) z))
       above Q g W Y q h k w (inr p) = p
 
-  -- `within-change` for such an error
+  -- `within_change` for such an error
   pub err_change : {K' : ℕ} {y' : Num} (u k : ℕ) → 0 < k → K * u ≡ K' * k → Equal (scale u y) (scale k y') → Err P c K x y (size_of y) → Err P c K' x y' (size_of y')
   err_change {K'} {y'} u k k+ e d h =
       let s : size_of y * u ≡ size_of y' * k = omega (arith, size_scale u y, size_scale k y', size_equal (scale u y) (scale k y') d) in

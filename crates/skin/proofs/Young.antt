@@ -103,7 +103,7 @@ module _ (f : Format) (vtx2ini vtx2def : List Float) (e v : Float) (h : is_finit
       split true bad = refused bad _ _ tri2vtx before is other
       split false good = subst (λ (K : Kernel). IsSkinOver f K (length vtx2ini) (length vtx2def) tri2vtx before r after) (taken good) is
 
--- finite or not: once E and v are taken, a triangle with finite corners has the source's numbers on the pair, with 4 and 5, never 3 (`taken-never-3`)
+-- finite or not: once E and v are taken, a triangle with finite corners has the source's numbers on the pair, with 4 and 5, never 3 (`taken_never_3`)
 pub triangle_taken : (f : Format) (vtx2ini vtx2def : List Float) (e v : Float) (i0 i1 i2 : ℕ) → let p0 = corners_at vtx2ini i0 i1 i2 in let p1 = corners_at vtx2def i0 i1 i2 in
     corners_finite p0 && corners_finite p1 ≡ true → is_finite_of (Young e v) ≡ true → is_bad_of f (Young e v) ≡ false
     → answer_of f vtx2ini vtx2def (Young e v) i0 i1 i2 ≡ taken_of f false (divisor_is_zero f p0) (stvk_numbers f p0 p1 (lame_of f (Young e v)))

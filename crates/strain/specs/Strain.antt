@@ -41,7 +41,7 @@ module _ (f : Format) where
         gu0 = record { x = unit_of f (cross_of f gd0.y gd0_z.v); y = unit_of f (cross_of f gd0_z.v gd0.x) };
       }
 
-  -- the unit normal of 01-scope 3.2, and StVK's scaling (5.5): each contravariant vector by 1 / its dot with its own edge, the first that `contravariantOf` takes
+  -- the unit normal of 01-scope 3.2, and StVK's scaling (5.5): each contravariant vector by 1 / its dot with its own edge, the first that `contravariant_of` takes
   unfoldable pub rest_of_green_lagrange : (ini : Tri2) → Rest
   rest_of_green_lagrange ini =
       let gd0 = plane_of f ini in
