@@ -3,13 +3,16 @@ use Rattle.std.specs.Prelude.{cond, List, [], ◌∷◌, eqb, Float}
 use Rattle.std.specs.Float.{Format}
 use Rattle.std.specs.Float.Ieee.{neg}
 use Rattle.float.specs.Ops.{ops}
-use Rattle.float.specs.Lists.{◌!◌, table, each}
+use Rattle.float.specs.Lists.{◌!◌, ◌!!◌, table, each}
 use Rattle.root.specs.Root.{root_of}
-use Rattle.vec3.specs.Vec3.{dot_of, sub_of}
+use Rattle.vec3.specs.Vec3.{point_of, dot_of, sub_of}
 use Rattle.del_geo_core.specs.Edge.{length_of}
 use Rattle.del_geo_core.specs.Tri3.{area_of}
 use Rattle.bending.specs.declared.Fold.{Fold}
 use Rattle.bending.specs.declared.Divisors.{Divisors}
+
+abbrev pub corners_of : List (List Float) → Fold
+corners_of p = record { p0 = point_of (p !! 0); p1 = point_of (p !! 1); p2 = point_of (p !! 2); p3 = point_of (p !! 3) }
 
 module _ (f : Format) where
   open ops f use {◌⊕◌, ◌⊖◌, ◌⊗◌, ◌⊘◌, zero, two, three}

@@ -5,7 +5,7 @@ ghost use Rattle.std.specs.Prelude.{◌≡◌};
 ghost use Rattle.std.specs.Float.{binary64};
 ghost use Rattle.float.specs.Ops.{ops};
 ghost use Rattle.root.specs.Root.{root_of};
-ghost use Rattle.bending.specs.Bending.{divisors_of, k_of, w_of, dwdp_of};
+ghost use Rattle.bending.specs.Bending.{corners_of, divisors_of, k_of, w_of, dwdp_of};
 
 use del_geo_core::{edge, tri3};
 use vec3::V3;
@@ -19,6 +19,19 @@ pub struct Fold {
     pub p3: V3,
 }
 
+impl From<[[f64; 3]; 4]> for Fold {
+    ghost from_gives = { λ p fold. fold ≡ corners_of p };
+
+    fn from([p0, p1, p2, p3]: [[f64; 3]; 4]) -> Self {
+        Fold {
+            p0: p0.into(),
+            p1: p1.into(),
+            p2: p2.into(),
+            p3: p3.into(),
+        }
+    }
+}
+
 // Every number that divides: `root_len` is root(area0 + area1) * len.
 #[derive(Clone, Copy)]
 pub struct Divisors {
@@ -28,6 +41,7 @@ pub struct Divisors {
     pub root_len: f64,
 }
 
+#[tactic(auto, unfolding(crate::specs::Bending::divisors_of))]
 pub fn divisors_of(p: Fold) -> Divisors
     ensures { result ≡ divisors_of binary64 p }
 {
@@ -50,6 +64,7 @@ fn root3() -> f64
 }
 
 // The factor of each corner. What is called cot.. is the cotangent times len; the division by root_len mends that.
+#[tactic(auto, unfolding(crate::specs::Bending::k_of))]
 pub fn k(p: Fold, d: Divisors) -> [f64; 4]
     ensures { result ≡ k_of binary64 p d }
 {
@@ -71,6 +86,7 @@ pub fn k(p: Fold, d: Divisors) -> [f64; 4]
     ]
 }
 
+#[tactic(auto, unfolding(crate::specs::Bending::w_of))]
 pub fn w(k: [f64; 4], p: Fold) -> [f64; 3]
     ensures { result ≡ w_of binary64 k p }
 {
@@ -81,13 +97,14 @@ pub fn w(k: [f64; 4], p: Fold) -> [f64; 3]
     ]
 }
 
+// As in the source, a store for each place that is not +0.
 pub fn dwdp(k: [f64; 4]) -> [f64; 36]
     ensures { result ≡ dwdp_of binary64 k }
 {
     let mut dwdp = [0.0; 36];
     for i_dim in 0..3usize {
-        for node in 0..4usize {
-            dwdp[(i_dim * 4 + node) * 3 + i_dim] = k[node];
+        for (node, &factor) in k.iter().enumerate() {
+            dwdp[(i_dim * 4 + node) * 3 + i_dim] = factor;
         }
     }
     dwdp

@@ -1,6 +1,6 @@
 -- `units_of` follows the rule and counts less than 2^64; which amount it is, by the comparisons that the code makes.
 use mathlib.Core.Path.{◌≡◌, refl, sym, ap, ◌∙◌}
-use mathlib.Core.Bool.{Bool, true, false, not, ◌&&◌, cond, true≢false, not-not}
+use mathlib.Core.Bool.{Bool, true, false, ◌&&◌, cond, true≢false, false≢true, not-not}
 use Prim.Native.Nat.{ℕ, zero, suc, ◌+◌, ◌-◌, ◌*◌, ◌/◌, ◌%◌, ◌^◌, ◌≤◌, ◌<◌}
 use native.Mathlib.Nat.{le_of_suc-le-suc, lt_of_not-le, mul-le-mul_left, mul-le-mul_right, pow-le-pow_right}
 use native.Mathlib.Omega.{arith}
@@ -49,9 +49,11 @@ few p (fin s m e) (Count v n) (h, N, _) = le_of_suc-le-suc (lt_of_not-le (λ (g 
 few p (fin s m e) Large R = omega arith
 few p (fin s m e) NoNumber R = omega arith
 
-pub no_number : (p : ℕ) (x : Float) → x ≡ nan → NoNumber ≡ units_of p x
-unfolding units_of
-no_number p x e = rw e
+pub no_number : (p : ℕ) (x : Float) → is_nan x ≡ true → NoNumber ≡ units_of p x
+unfolding units_of is_nan
+no_number p nan e = refl
+no_number p (inf s) e = absurd (false≢true e)
+no_number p (fin s m i) e = absurd (false≢true e)
 
 pub neg_neg : (x : Float) → neg (neg x) ≡ x
 unfolding neg
@@ -73,9 +75,9 @@ module _ (p : ℕ) (P : p ≤ 9) where
       let zero-units : closest a (down e) ≡ 0 = nearest_alone a (down e) (down_pos e) (closest_nearest a (down e) (down_pos e)) (nearest_zero a (down e) less) in
       rw (lt-leb (10 ^ 18 * down e) a (omega arith), zero-units) (no_minus s)
 
-  pub when_tiny : (x : Float) → T (not (is_nan x)) → le tiny x ≡ false → le tiny (neg x) ≡ false → Count false 0 ≡ units_of p x
+  pub when_tiny : (x : Float) → is_nan x ≡ false → le tiny x ≡ false → le tiny (neg x) ≡ false → Count false 0 ≡ units_of p x
   unfolding is_nan neg le of_bits
-  when_tiny nan n h k = absurd n
+  when_tiny nan n h k = absurd (true≢false n)
   when_tiny (inf true) n h k = absurd (true≢false k)
   when_tiny (inf false) n h k = absurd (true≢false h)
   when_tiny (fin true m e) n h k = none true m e (not_le tiny (fin false m e) 1 (2 ^ 31) (m * up e) (down e) (lit< tt) (down_pos e) tiny_value (refl, refl) k)

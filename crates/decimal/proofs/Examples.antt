@@ -2,12 +2,12 @@
 use mathlib.Core.Path.{◌≡◌, refl}
 use mathlib.Core.Bool.{true, false}
 use lib.Ieee.{binary64, of_bits, round}
+use Rattle.std.specs.Prelude.{Ok}
 use Rattle.float.specs.Text.{ascii}
 use Rattle.decimal.specs.Units.{units_of}
 use Rattle.decimal.specs.Text.{whole_of, few_digits, pointed, text_of, field_of}
-use Rattle.decimal.specs.Reading.{number_of, scanned}
+use Rattle.decimal.specs.Reading.{wrong, number_of, scanned}
 use Rattle.decimal.specs.declared.units.Amount.TheVariants.{Count}
-use Rattle.decimal.specs.declared.reading.Number.TheVariants.{Value, Wrong}
 
 record Rows : Type 0 where
   half : units_of 0 (of_bits binary64 0x3fe0_0000_0000_0000) ≡ Count false 0
@@ -18,10 +18,10 @@ record Rows : Type 0 where
   too_large : text_of 0 (units_of 0 (of_bits binary64 0x43ab_c16d_674e_c800)) ≡ ascii "too large"
   no_number : text_of 0 (units_of 0 (of_bits binary64 0x7ff8_0000_0000_0000)) ≡ ascii "no number"
   too_short : field_of 6 (ascii "-12.500") ≡ ascii "######"
-  whole : number_of 0 0 (ascii "1400") ≡ Value (of_bits binary64 0x4095_e000_0000_0000)
-  small : number_of 0 0 (ascii "0.002") ≡ Value (of_bits binary64 0x3f60_624d_d2f1_a9fc)
-  bare : number_of 0 0 (ascii "1.") ≡ Wrong 2
-  long : number_of 0 0 (ascii "1234567890.123456") ≡ Wrong 16
+  whole : number_of 0 0 (ascii "1400") ≡ Ok (of_bits binary64 0x4095_e000_0000_0000)
+  small : number_of 0 0 (ascii "0.002") ≡ Ok (of_bits binary64 0x3f60_624d_d2f1_a9fc)
+  bare : number_of 0 0 (ascii "1.") ≡ wrong 2
+  long : number_of 0 0 (ascii "1234567890.123456") ≡ wrong 16
 
 rows : Rows
 unfolding scanned units_of round of_bits whole_of few_digits pointed field_of

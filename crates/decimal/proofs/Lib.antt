@@ -1,7 +1,7 @@
 pub mod Nearest
 pub mod Amounts
 mod Values
-mod Puts
+mod Digits
 pub mod Texts
 pub mod Scans
 mod Examples

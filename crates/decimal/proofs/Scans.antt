@@ -1,30 +1,37 @@
 -- A plain decimal, byte by byte: what the bytes from here on give after those so far is what the text gives; and what digits and a point give.
 use mathlib.Core.Path.{◌≡◌, refl, sym, ap, ◌∙◌}
-use mathlib.Core.Bool.{Bool, true, false, cond, not, ◌||◌, true≢false, false≢true}
+use mathlib.Core.Bool.{Bool, true, false, cond, not, ◌&&◌, ◌||◌, true≢false, false≢true}
 use mathlib.Core.List.{List, [], ◌∷◌, ◌++◌, append-nil}
-use Prim.Native.Nat.{ℕ, suc, ◌+◌, ◌-◌, ◌*◌, ◌^◌, ◌≤◌, ◌<◌}
-use native.Mathlib.Nat.{le_trans, mul-le-mul_left, mul-le-mul_right, one-le-pow, pow-suc}
+use Prim.Native.Nat.{ℕ, zero, suc, ◌+◌, ◌-◌, ◌*◌, ◌^◌, ◌≤◌, ◌<◌}
+use native.Mathlib.Nat.{le_trans, lt_of_not-le, mul-le-mul_left, mul-le-mul_right, one-le-pow, pow-suc}
 use native.Mathlib.Numerals.{add-one}
 use native.Mathlib.Omega.{arith}
-use lib.Dec.{eqb, leb, lit<}
+use native.Mathlib.Decide.{dec_le}
+use lib.Dec.{eqb, ltb, lit<}
 use lib.ListN.{length, get_or, drop, drop_of_length-le}
 use lib.Seq.{drop-cons}
-use borrow.Author.Tests.{leb-true, eqb-false, eq-eqb, ne_eqb}
+use borrow.Author.Tests.{eq-eqb, ne_eqb, le-leb, lt-leb, lt-ltb, ltb-true}
 use Rattle.float.specs.Lists.{every, fold}
 use Rattle.float.proofs.Fold.{fold_append}
 use Rattle.float.proofs.Scan.{both}
 use Rattle.float.proofs.Unique.{only}
 use Rattle.decimal.specs.Text.{is_digit, said}
-use Rattle.decimal.specs.Reading.{fraction, scanned, number_of, plain, IsNumber}
-use Rattle.decimal.specs.declared.reading.Number.{Number}
-use Rattle.decimal.specs.declared.reading.Number.TheVariants.{Wrong}
+use Rattle.decimal.specs.Reading.{Number, wrong, fraction, scanned, number_of, plain, IsNumber}
 
-pub digit_between : (c : ℕ) → is_digit c ≡ true → (48 ≤ c) × (c ≤ 57)
-digit_between c h = let (low, high) = both (leb 48 c) (leb c 57) h in (leb-true 48 c low, leb-true c 57 high)
+module _ (c : ℕ) where
+  is_one : 48 ≤ c → c ≤ 57 → is_digit c ≡ true
+  is_one low high = rw (le-leb 48 c low, le-leb c 57 high)
 
-neither : (a b : Bool) → (a || b) ≡ false → b ≡ false
-neither false b h = h
-neither true b h = absurd (true≢false h)
+  is_none : (48 ≤ c → 57 < c) → is_digit c ≡ false
+  is_none h = by (dec_le 48 c)
+    where
+      by : Dec (48 ≤ c) → is_digit c ≡ false
+      by (yes g) = rw (le-leb 48 c g, lt-leb c 57 (h g))
+      by (no n) = rw (lt-leb 48 c (lt_of_not-le n))
+
+is_false : (b : Bool) → not b ≡ true → b ≡ false
+is_false true h = absurd (false≢true h)
+is_false false h = refl
 
 -- ---- the loop
 pub record Left (up down : ℕ) (text : List ℕ) (m left since : ℕ) (pointed : Bool) (at : ℕ) : Type 0 where
@@ -38,51 +45,59 @@ module _ {up down : ℕ} {text : List ℕ} where
   started = record { small = omega arith; few = omega arith; fewer = λ e. absurd (false≢true e); same = refl }
 
   module _ {m left since : ℕ} {pointed : Bool} {at : ℕ} (l : Left up down text m left since pointed at) where
-    pub below : m < 10 ^ 15
-    below = let one : 1 ≤ 10 ^ left = one-le-pow left 10 (lit< tt) in omega (arith, l.small, mul-le-mul_left (m + 1) one)
+    pub small_enough : m < 10 ^ 15
+    small_enough = let one : 1 ≤ 10 ^ left = one-le-pow left 10 (lit< tt) in omega (arith, l.small, mul-le-mul_left (m + 1) one)
 
-    at_end : length text ≤ at → number_of up down text ≡ cond (eqb since 0) (Wrong at) (fraction m up (cond pointed since 0 + down))
+    at_end : length text ≤ at → number_of up down text ≡ cond (eqb since 0) (wrong at) (fraction m up (cond pointed since 0 + down))
     unfolding scanned
     at_end h = sym l.same ∙ rw (drop_of_length-le text h)
 
-    pub wanting : length text ≤ at → since ≡ 0 → Wrong at ≡ number_of up down text
-    wanting h e = rw (at_end h, eq-eqb since 0 e)
+    pub wanting : length text ≡ at → since ≡ 0 → wrong (length text) ≡ number_of up down text
+    wanting h e = rw (at_end (omega arith), eq-eqb since 0 e, h)
 
-    pub done : length text ≤ at → (since ≡ 0 → ⊥) → fraction m up (cond pointed since 0 + down) ≡ number_of up down text
-    done h e = rw (at_end h, ne_eqb since 0 e)
+    pub done : length text ≤ at → (since ≡ 0 → ⊥) → {places : ℕ} → places ≡ cond pointed since 0 → fraction m up (places + down) ≡ number_of up down text
+    done h e p = rw (at_end h, ne_eqb since 0 e, p)
 
     module _ (inside : at < length text) where
       abbrev c : ℕ
       c = get_or text at 0
 
       one : number_of up down text
-          ≡ cond (is_digit c) (cond (eqb left 0) (Wrong at) (scanned up down (m * 10 + (c - 48)) (left - 1) (since + 1) pointed (at + 1) (drop (at + 1) text)))
-          (cond (not (eqb c 46) || pointed || eqb since 0) (Wrong at) (scanned up down m left 0 true (at + 1) (drop (at + 1) text)))
+          ≡ cond (is_digit c) (cond (eqb left 0) (wrong at) (scanned up down (m * 10 + (c - 48)) (left - 1) (since + 1) pointed (at + 1) (drop (at + 1) text)))
+          (cond (not (eqb c 46) || pointed || eqb since 0) (wrong at) (scanned up down m left 0 true (at + 1) (drop (at + 1) text)))
       unfolding scanned
       one = sym l.same ∙ rw (drop-cons text at 0 inside, add-one at)
 
-      pub too_many : is_digit c ≡ true → left ≡ 0 → Wrong at ≡ number_of up down text
-      too_many d e = rw (one, d, eq-eqb left 0 e)
+      pub too_many : 48 ≤ c → c ≤ 57 → left ≤ 0 → wrong at ≡ number_of up down text
+      too_many low high e = rw (one, is_one c low high, eq-eqb left 0 (omega arith))
 
-      pub digit : is_digit c ≡ true → (left ≡ 0 → ⊥) → Left up down text (m * 10 + (c - 48)) (left - 1) (since + 1) pointed (at + 1)
-      digit d n =
-          let (low, high) = digit_between c d in let s : left ≡ suc (left - 1) = omega arith in
+      pub no_digit : (48 ≤ c → 57 < c) → (c ≡ 46 → ⊥) → wrong at ≡ number_of up down text
+      no_digit d n = rw (one, is_none c d, ne_eqb c 46 n)
+
+      pub no_point : c ≡ 46 → (not pointed && ltb 0 since) ≡ false → wrong at ≡ number_of up down text
+      no_point e h = rw (one, e) (by pointed since h)
+        where
+          by : (p : Bool) (n : ℕ) → (not p && ltb 0 n) ≡ false → wrong at ≡ cond (p || eqb n 0) (wrong at) (scanned up down m left 0 true (at + 1) (drop (at + 1) text))
+          by true n h = refl
+          by false zero h = refl
+          by false (suc n) h = absurd (true≢false (sym (lt-ltb 0 (suc n) (omega arith)) ∙ h))
+
+      pub digit : 48 ≤ c → c ≤ 57 → 0 < left → Left up down text (m * 10 + (c - 48)) (left - 1) (since + 1) pointed (at + 1)
+      digit low high some =
+          let s : left ≡ suc (left - 1) = omega arith in
           let tens : 10 ^ left ≡ 10 ^ (left - 1) * 10 = ap (λ (z : ℕ). 10 ^ z) s ∙ pow-suc 10 (left - 1) in
           let less : m * 10 + (c - 48) + 1 ≤ (m + 1) * 10 = omega arith in
           record {
             small = le_trans (omega (arith, mul-le-mul_right (10 ^ (left - 1)) less, ap (λ (z : ℕ). (m + 1) * z) tens)) l.small;
             few = omega (arith, l.few);
             fewer = λ e. omega (arith, l.fewer e);
-            same = sym (one ∙ rw (d, ne_eqb left 0 n));
+            same = sym (one ∙ rw (is_one c low high, ne_eqb left 0 (λ e. omega arith)));
           }
 
-      pub wrong_byte : is_digit c ≡ false → (not (eqb c 46) || pointed || eqb since 0) ≡ true → Wrong at ≡ number_of up down text
-      wrong_byte d e = rw (one, d, e)
-
-      pub point : is_digit c ≡ false → (not (eqb c 46) || pointed || eqb since 0) ≡ false → Left up down text m left 0 true (at + 1)
-      point d e =
-          let some = eqb-false since 0 (neither (not (eqb c 46) || pointed) (eqb since 0) e) in
-          record { small = l.small; few = omega (arith, l.few); fewer = λ _. omega (arith, l.few, some); same = sym (one ∙ rw (d, e)) }
+      pub point : c ≡ 46 → (not pointed && ltb 0 since) ≡ true → Left up down text m left 0 true (at + 1)
+      point e h =
+          let (p, some) = both (not pointed) (ltb 0 since) h in let after : 0 < since = ltb-true 0 since some in
+          record { small = l.small; few = omega (arith, l.few); fewer = λ _. omega (arith, l.few, after); same = sym (one ∙ rw (e, is_false pointed p, ne_eqb since 0 (λ z. omega arith))) }
 
 -- ---- a plain decimal
 abbrev next : ℕ → ℕ → ℕ

@@ -7,10 +7,12 @@ use native.Mathlib.Nat.{pow-suc}
 use native.Mathlib.Omega.{arith}
 use lib.Dec.{eqb}
 use lib.ListN.{length, length-append}
-use borrow.Author.Tests.{eqb-true, eqb-false, le-leb}
+use borrow.Author.Tests.{eqb-true, le-leb}
 use Rattle.float.specs.Lists.{fold}
 use Rattle.float.proofs.Fold.{fold_append}
 use Rattle.float.proofs.Unique.{only}
+use Rattle.std.proofs.lemmas.Fmt.{length-decimal-le_wide}
+use Rattle.decimal.proofs.Digits.{whole_decimal}
 use Rattle.decimal.specs.Text.{said, last, few_digits, whole_of, pointed, numeral_of, sign_of, text_of, count_of, IsShown}
 use Rattle.decimal.specs.declared.units.Amount.{Amount}
 use Rattle.decimal.specs.declared.units.Amount.TheVariants.{Count, Large, NoNumber}
@@ -50,25 +52,14 @@ says_back (suc k) true n h = pointed_says (suc k) n (omega arith)
 says_back (suc k) false n h = pointed_says (suc k) n (omega arith)
 
 -- ---- how long it is
-few_length : (k j n : ℕ) → n < 10 ^ j → length (few_digits k n) ≤ j
-unfolding few_digits
-few_length zero j n h = omega arith
-few_length (suc k) j n h = by (eqb n 0) refl j h (λ j. few_length k j (n / 10))
-  where
-    by : (b : Bool) → eqb n 0 ≡ b → (j : ℕ) → n < 10 ^ j → ((j : ℕ) → n / 10 < 10 ^ j → length (few_digits k (n / 10)) ≤ j) → length (cond b [] (few_digits k (n / 10) ++ last n)) ≤ j
-    by true e j h few = omega arith
-    by false e zero h few = absurd (eqb-false n 0 e (omega arith))
-    by false e (suc j) h few = simp length-append (omega (arith, few j (omega (arith, rw pow-suc at h))))
+whole_length : (j n : ℕ) → n < 10 ^ suc j → n < 10 ^ 20 → length (whole_of n) ≤ suc j
+whole_length j n h few = rw (whole_decimal n few) (length-decimal-le_wide (suc j) n (omega arith) h (omega arith))
 
-whole_length : (j n : ℕ) → n < 10 ^ suc j → length (whole_of n) ≤ suc j
-unfolding whole_of
-whole_length j n h = simp length-append (omega (arith, few_length 19 j (n / 10) (omega (arith, rw pow-suc at h))))
-
-pointed_length : (k j n : ℕ) → n < 10 ^ (suc j + k) → length (pointed k n) ≤ suc j + k + 1
+pointed_length : (k j n : ℕ) → n < 10 ^ (suc j + k) → n < 10 ^ 20 → length (pointed k n) ≤ suc j + k + 1
 unfolding pointed
-pointed_length zero j n h = let s : suc j + 0 ≡ suc j = omega arith in simp length-append (omega (arith, whole_length j n (rw s at h)))
-pointed_length (suc k) j n h =
-    let s : suc j + suc k ≡ suc (suc j + k) = omega arith in simp length-append (omega (arith, pointed_length k j (n / 10) (omega (arith, rw (s, pow-suc) at h))))
+pointed_length zero j n h few = let s : suc j + 0 ≡ suc j = omega arith in simp length-append (omega (arith, whole_length j n (rw s at h) few))
+pointed_length (suc k) j n h few =
+    let s : suc j + suc k ≡ suc (suc j + k) = omega arith in simp length-append (omega (arith, pointed_length k j (n / 10) (omega (arith, rw (s, pow-suc) at h)) (omega arith)))
 
 pub short : (k : ℕ) (amount : Amount) → k ≤ 9 → count_of amount < 2 ^ 64 → length (text_of k amount) ≤ 22
 short k Large h few = omega arith
@@ -80,7 +71,7 @@ short k (Count negative n) h few = simp length-append (by negative k h)
     sign false = omega arith
 
     by : (b : Bool) (k : ℕ) → k ≤ 9 → length (sign_of b) + length (numeral_of k n) ≤ 22
-    by b zero h = omega (arith, sign b, whole_length 19 n (omega arith))
+    by b zero h = omega (arith, sign b, whole_length 19 n (omega arith) (omega arith))
     by b (suc k) h =
         let s : suc (18 - k) + suc k ≡ 20 = omega arith in let less : n < 10 ^ 20 = omega arith in
-        omega (arith, sign b, pointed_length (suc k) (18 - k) n (rw s less))
+        omega (arith, sign b, pointed_length (suc k) (18 - k) n (rw s less) less)

@@ -1,23 +1,29 @@
 -- What a plain decimal says, or where it is wrong first.
-use Rattle.std.specs.Prelude.{◌≡◌, Bool, true, false, cond, not, ◌||◌, List, [], ◌∷◌, ◌++◌, ℕ, ◌+◌, ◌-◌, ◌*◌, ◌^◌, ◌≤◌, ◌<◌, eqb, length}
+use Rattle.std.specs.Prelude.{◌≡◌, Bool, true, false, cond, not, ◌||◌, List, [], ◌∷◌, ◌++◌, ℕ, ◌+◌, ◌-◌, ◌*◌, ◌^◌, ◌≤◌, ◌<◌, eqb, length, Float, Result, Ok, Err}
 use Rattle.std.specs.Float.{binary64}
 use Rattle.std.specs.Float.Ieee.{round}
 use Rattle.float.specs.Lists.{every}
 use Rattle.decimal.specs.Text.{is_digit, said}
-use Rattle.decimal.specs.declared.reading.Number.{Number}
-use Rattle.decimal.specs.declared.reading.Number.TheVariants.{Value, Wrong}
+use Rattle.decimal.specs.declared.reading.Wrong.{Wrong}
+
+-- a number, or the place of the first byte that is wrong
+abbrev pub Number : Type 0
+Number = Result Float Wrong
+
+abbrev pub wrong : (at : ℕ) → Number
+wrong at = Err (record { at = at })
 
 -- the fraction m * 10 ^ up / 10 ^ down as the nearest double
 abbrev pub fraction : (m up down : ℕ) → Number
-fraction m up down = Value (round binary64 false (m * 10 ^ up) (10 ^ down))
+fraction m up down = Ok (round binary64 false (m * 10 ^ up) (10 ^ down))
 
 -- after digits that say m: `left` more may come, `since` came since the beginning or since the point, and the text goes on at the place `at`
 unfoldable pub scanned : (up down m left since : ℕ) (pointed : Bool) (at : ℕ) → List ℕ → Number
-scanned up down m left since pointed at [] = cond (eqb since 0) (Wrong at) (fraction m up (cond pointed since 0 + down))
+scanned up down m left since pointed at [] = cond (eqb since 0) (wrong at) (fraction m up (cond pointed since 0 + down))
 scanned up down m left since pointed at (c ∷ text) =
     cond (is_digit c)
-    (cond (eqb left 0) (Wrong at) (scanned up down (m * 10 + (c - 48)) (left - 1) (since + 1) pointed (at + 1) text))
-    (cond (not (eqb c 46) || pointed || eqb since 0) (Wrong at) (scanned up down m left 0 true (at + 1) text))
+    (cond (eqb left 0) (wrong at) (scanned up down (m * 10 + (c - 48)) (left - 1) (since + 1) pointed (at + 1) text))
+    (cond (not (eqb c 46) || pointed || eqb since 0) (wrong at) (scanned up down m left 0 true (at + 1) text))
 
 abbrev pub number_of : (up down : ℕ) (text : List ℕ) → Number
 number_of up down text = scanned up down 0 15 0 false 0 text

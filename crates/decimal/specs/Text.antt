@@ -1,5 +1,5 @@
 -- An amount as text: sign, whole part, point, decimals; and that text in a field.
-use Rattle.std.specs.Prelude.{◌≡◌, Bool, true, false, cond, ◌&&◌, List, [], ◌∷◌, ◌++◌, ℕ, zero, suc, ◌+◌, ◌-◌, ◌*◌, ◌/◌, ◌%◌, ◌<◌, eqb, leb, ltb, length, drop, replicate}
+use Rattle.std.specs.Prelude.{◌≡◌, Bool, true, false, cond, ◌&&◌, List, [], ◌∷◌, ◌++◌, ℕ, zero, suc, ◌+◌, ◌-◌, ◌*◌, ◌/◌, ◌%◌, eqb, leb, ltb, length, replicate}
 use Rattle.float.specs.Lists.{fold}
 use Rattle.float.specs.Text.{ascii}
 use Rattle.decimal.specs.declared.units.Amount.{Amount}
@@ -57,9 +57,3 @@ field_of w t = cond (ltb w (length t)) (replicate w 35) (replicate (w - length t
 -- THE statement of `show`
 abbrev pub IsShown : (k : ℕ) (amount : Amount) (before : List ℕ) (r : ℕ) (after : List ℕ) → Type 0
 IsShown k amount before r after = (after ≡ field_of (length before) (text_of k amount)) × (r ≡ length before - length (text_of k amount))
-
--- t is put in front of what stands from at - 1 on, and begins at r - 1; or r is 0, where t is too long
-pub record Puts (t before : List ℕ) (at : ℕ) (after : List ℕ) (r : ℕ) : Type 0 where
-  pub room : length after ≡ length before
-  pub long : r ≡ at - length t
-  pub says : 0 < r → drop (r - 1) after ≡ t ++ drop (at - 1) before

@@ -4,11 +4,12 @@ ghost use Rattle.std.specs.Float.{binary64};
 ghost use Rattle.std.specs.Float.Ieee.{round};
 ghost use Rattle.decimal.specs.Reading.{IsNumber};
 
-// A number, or the place of the first byte that is wrong.
-#[derive(Drop)]
-pub enum Number {
-    Value(f64),
-    Wrong(usize),
+use crate::units::ten;
+
+// The place of the first byte that is wrong.
+#[derive(Clone, Copy, Debug, PartialEq, Eq)]
+pub struct Wrong {
+    pub at: usize,
 }
 
 // m * 10^up / 10^down. Each of the two numbers is a double, so the one product or quotient rounds once.
@@ -17,46 +18,38 @@ fn value(m: u64, up: usize, down: usize) -> f64
     ensures { result ≡ round binary64 false (m * 10 ^ up) (10 ^ down) }
 {
     if down <= up {
-        return m as f64 * crate::units::ten(up - down);
+        m as f64 * ten(up - down)
+    } else {
+        m as f64 / ten(down - up)
     }
-    m as f64 / crate::units::ten(down - up)
 }
 
 // Digits, then perhaps a point and digits, read as the double nearest to the fraction that they say times 10^up over 10^down; or the place of the first wrong byte. At most 15 digits, leading zeros counted.
 // An up or a down above 8 counts as 8: with the 14 places that may follow the point, no power is above 10^22, the last that is a double.
-pub fn read(text: &[u8], up: usize, down: usize) -> Number
+pub fn read(text: &[u8], up: usize, down: usize) -> Result<f64, Wrong>
     ensures { IsNumber (min up 8) (min down 8) text.now result }
 {
-    let mut m: u64 = 0;
+    let mut m = 0;
     let mut left: usize = 15;
-    let mut since: usize = 0;
+    let mut since = 0;
     let mut pointed = false;
-    let mut at: usize = 0;
-    while at < text.len() {
-        let c = text[at];
-        if (b'0' <= c) & (c <= b'9') {
-            if left == 0 {
-                return Number::Wrong(at);
+    for (at, &c) in text.iter().enumerate() {
+        match c {
+            b'0'..=b'9' if left > 0 => {
+                m = m * 10 + u64::from(c - b'0');
+                left -= 1;
+                since += 1;
             }
-            m = m * 10 + (c as u64 - 48);
-            left = left - 1;
-            since = since + 1;
-        } else {
-            if (c != b'.') | pointed | (since == 0) {
-                return Number::Wrong(at);
+            b'.' if !pointed & (since > 0) => {
+                since = 0;
+                pointed = true;
             }
-            since = 0;
-            pointed = true;
+            _ => return Err(Wrong { at }),
         }
-        at = at + 1;
     }
     if since == 0 {
-        return Number::Wrong(at);
+        return Err(Wrong { at: text.len() });
     }
-    let up = crate::units::least(up, 8);
-    let down = crate::units::least(down, 8);
-    if pointed {
-        return Number::Value(value(m, up, since + down));
-    }
-    Number::Value(value(m, up, down))
+    let places = if pointed { since } else { 0 };
+    Ok(value(m, up.min(8), places + down.min(8)))
 }

@@ -5,7 +5,7 @@ ghost use Rattle.std.specs.Float.Ieee.{of_int, le, neg};
 ghost use Rattle.decimal.specs.Units.{IsNearest, tiny, units_of, IsUnits};
 
 // So many units with their sign; 10^18 units or more; or a NaN.
-#[derive(Drop)]
+#[derive(Clone, Copy, Debug, PartialEq, Eq)]
 pub enum Amount {
     Count { negative: bool, n: u64 },
     Large,
@@ -14,12 +14,6 @@ pub enum Amount {
 
 // 2^-31, less than half a unit for every p.
 const TINY: f64 = f64::from_bits(0x3e00_0000_0000_0000);
-
-pub(crate) fn least(a: usize, b: usize) -> usize
-    ensures { (result ≡ min a b) × (result ≤ b) }
-{
-    if a < b { a } else { b }
-}
 
 // 10^k, which is a double.
 pub(crate) fn ten(k: usize) -> f64
@@ -94,10 +88,10 @@ fn counted(y: f64, negative: bool, p: usize) -> Amount
 pub fn units(x: f64, p: usize) -> Amount
     ensures { IsUnits (min p 9) x result }
 {
-    if x != x {
+    if x.is_nan() {
         return Amount::NoNumber;
     }
-    let places = least(p, 9);
+    let places = p.min(9);
     if TINY <= x {
         return counted(x, false, places);
     }

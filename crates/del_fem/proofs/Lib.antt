@@ -1,4 +1,3 @@
-mod MeshFile
 pub mod Unique
 pub mod Refused
 pub mod MeshBlocks

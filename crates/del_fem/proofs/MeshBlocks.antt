@@ -4,32 +4,32 @@ use mathlib.Core.List.{List}
 use Prim.Native.Nat.{ℕ, ◌+◌, ◌≤◌}
 use native.Mathlib.Omega.{arith}
 use lib.ListN.{length, take, drop}
+use Rattle.std.specs.Prelude.{Result, Ok, Err}
 use Rattle.refusal.specs.Refusal.{accepted}
 use Rattle.mesh.specs.Mesh.{mesh_of, number_of}
 use Rattle.mesh.specs.Blocks.{points_in, cells_in}
 use Rattle.mesh.specs.declared.Mesh.{Mesh}
-use Rattle.mesh.specs.declared.Mesh.TheVariants.{Read, Refused}
 use Rattle.mesh.proofs.Bounds.{within}
 use Rattle.del_fem.specs.Exports.{points_at, cells_at, IsPointsExport, IsCellsExport}
 
 module _ (f : List ℕ) where
-  points_of : (a : Mesh) → take (points_at a).1 (drop (points_at a).0 f) ≡ points_in f a
+  points_of : (a : Result Mesh ℕ) → take (points_at a).1 (drop (points_at a).0 f) ≡ points_in f a
   unfolding points_in
-  points_of (Read n m points cells types) = refl
-  points_of (Refused place) = refl
+  points_of (Ok mesh) = refl
+  points_of (Err place) = refl
 
-  cells_of : (a : Mesh) → take (cells_at a).1 (drop (cells_at a).0 f) ≡ cells_in f a
+  cells_of : (a : Result Mesh ℕ) → take (cells_at a).1 (drop (cells_at a).0 f) ≡ cells_in f a
   unfolding cells_in
-  cells_of (Read n m points cells types) = refl
-  cells_of (Refused place) = refl
+  cells_of (Ok mesh) = refl
+  cells_of (Err place) = refl
 
-  points_end : (a : Mesh) → mesh_of f ≡ a → number_of a ≡ accepted → (points_at a).0 + (points_at a).1 ≤ length f
-  points_end (Read n m points cells types) e h = (within f n m points cells types e).0
-  points_end (Refused place) e h = absurd (omega (arith, h))
+  points_end : (a : Result Mesh ℕ) → mesh_of f ≡ a → number_of a ≡ accepted → (points_at a).0 + (points_at a).1 ≤ length f
+  points_end (Ok mesh) e h = (within f mesh e).0
+  points_end (Err place) e h = absurd (omega (arith, h))
 
-  cells_end : (a : Mesh) → mesh_of f ≡ a → number_of a ≡ accepted → (cells_at a).0 + (cells_at a).1 ≤ length f
-  cells_end (Read n m points cells types) e h = (within f n m points cells types e).1
-  cells_end (Refused place) e h = absurd (omega (arith, h))
+  cells_end : (a : Result Mesh ℕ) → mesh_of f ≡ a → number_of a ≡ accepted → (cells_at a).0 + (cells_at a).1 ≤ length f
+  cells_end (Ok mesh) e h = (within f mesh e).1
+  cells_end (Err place) e h = absurd (omega (arith, h))
 
   module _ {r place size : ℕ} where
     -- of a refused file both are empty

@@ -7,8 +7,9 @@ use lib.Ieee.{Float, Format}
 use Rattle.float.proofs.Unique.{only}
 use Rattle.values.proofs.Unique.{same}
 use Rattle.material.specs.declared.Material.{Material}
-use Rattle.skin.specs.declared.Skin.{Skin}
+use Rattle.skin.specs.Skin.{SkinGiven}
 use Rattle.skin.proofs.SkinAnswer.{unique}
+use Rattle.std.specs.Prelude.{Result}
 use Rattle.mesh.specs.declared.Mesh.{Mesh}
 use Rattle.del_fem.specs.Exports.{IsBendingExport, IsStrainExport, IsGreenLagrangeExport, IsStvkExport, IsPlateExport, IsSkinExport}
 use Rattle.del_fem.specs.Exports.{IsMeshExport, points_at, cells_at, GivesBlock, IsPointsExport, IsCellsExport, version}
@@ -38,7 +39,7 @@ module _ {r q : ℕ} {v w : List Float} where
         → (r ≡ q) × (place ≡ spot) × (x ≡ y) × (v ≡ w)
     skin vtx2ini vtx2def tri2vtx m before a b =
         let one = unique f vtx2ini vtx2def tri2vtx m before a b in
-        (ap (λ (s : Skin). s.number) one.0, ap (λ (s : Skin). s.place) one.0, ap (λ (s : Skin). s.w) one.0, one.1)
+        (ap (λ (s : SkinGiven). s.number) one.0, ap (λ (s : SkinGiven). s.place) one.0, ap (λ (s : SkinGiven). s.w) one.0, one.1)
 
 entries : {a b c x y z : ℕ} → a ∷ b ∷ c ∷ [] ≡ x ∷ y ∷ z ∷ [] → (a ≡ x) × (b ≡ y) × (c ≡ z)
 entries e = (cc, cc, cc)
@@ -47,7 +48,7 @@ module _ (file : List ℕ) {r q place spot : ℕ} where
   pub mesh : {n m k l : ℕ} → IsMeshExport file r n m place → IsMeshExport file q k l spot → (r ≡ q) × (n ≡ k) × (m ≡ l) × (place ≡ spot)
   mesh a b = let (e, g, h) = entries (only a.1 b.1) in (only a.0 b.0, e, g, h)
 
-  block : (at : Mesh → ℕ × ℕ) {size long : ℕ} → GivesBlock at file r place size → GivesBlock at file q spot long → (r ≡ q) × (place ≡ spot) × (size ≡ long)
+  block : (at : Result Mesh ℕ → ℕ × ℕ) {size long : ℕ} → GivesBlock at file r place size → GivesBlock at file q spot long → (r ≡ q) × (place ≡ spot) × (size ≡ long)
   block at a b = (only a.0 b.0, only a.1 b.1, only a.2 b.2)
 
   pub points : {size long : ℕ} → IsPointsExport file r place size → IsPointsExport file q spot long → (r ≡ q) × (place ≡ spot) × (size ≡ long)

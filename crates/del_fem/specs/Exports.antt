@@ -1,6 +1,6 @@
 -- What an exported kernel gives: its answer's number is returned, and the lent array holds the answer's values one after the other, whatever was in it.
 -- The answer is the one that the kernel's own statement names, with +0 throughout after a refusal (01-scope 2.1). A material crosses as a word and four numbers (5.11; `material_of`).
-use Rattle.std.specs.Prelude.{◌≡◌, cond, List, [], ◌∷◌, ◌++◌, ℕ, ◌*◌, eqb, Float}
+use Rattle.std.specs.Prelude.{◌≡◌, cond, Result, Ok, Err, List, [], ◌∷◌, ◌++◌, ℕ, ◌*◌, eqb, Float}
 use Rattle.std.specs.Float.{Format}
 use Rattle.refusal.specs.Refusal.{accepted}
 use Rattle.material.specs.declared.Material.{Material}
@@ -15,7 +15,6 @@ use Rattle.skin.specs.Skin.{IsSkin}
 use Rattle.values.specs.Values.{GivesBending, GivesStrain, GivesEnergy}
 use Rattle.mesh.specs.Mesh.{mesh_of, number_of, values_of}
 use Rattle.mesh.specs.declared.Mesh.{Mesh}
-use Rattle.mesh.specs.declared.Mesh.TheVariants.{Read, Refused}
 
 -- THE statement of `del_fem_version`: 1000 times the major number and the minor one
 abbrev pub version : ℕ
@@ -55,15 +54,15 @@ abbrev pub IsMeshExport : (file : List ℕ) (r n m place : ℕ) → Type 0
 IsMeshExport file r n m place = (r ≡ number_of (mesh_of file)) × (n ∷ m ∷ place ∷ [] ≡ lent_of (number_of (mesh_of file)) (values_of (mesh_of file)))
 
 -- where a block begins and how many bytes it has; of a refused file the place, and no byte. A point has 24 bytes, a cell 16
-abbrev pub points_at : Mesh → ℕ × ℕ
-points_at (Read n m points cells types) = (points, 24 * n)
-points_at (Refused place) = (place, 0)
+abbrev pub points_at : Result Mesh ℕ → ℕ × ℕ
+points_at (Ok mesh) = (mesh.points, 24 * mesh.n)
+points_at (Err place) = (place, 0)
 
-abbrev pub cells_at : Mesh → ℕ × ℕ
-cells_at (Read n m points cells types) = (cells, 16 * m)
-cells_at (Refused place) = (place, 0)
+abbrev pub cells_at : Result Mesh ℕ → ℕ × ℕ
+cells_at (Ok mesh) = (mesh.cells, 16 * mesh.m)
+cells_at (Err place) = (place, 0)
 
-abbrev pub GivesBlock : (at : Mesh → ℕ × ℕ) (file : List ℕ) (r place length : ℕ) → Type 0
+abbrev pub GivesBlock : (at : Result Mesh ℕ → ℕ × ℕ) (file : List ℕ) (r place length : ℕ) → Type 0
 GivesBlock at file r place length = (r ≡ number_of (mesh_of file)) × (place ≡ (at (mesh_of file)).0) × (length ≡ (at (mesh_of file)).1)
 
 -- THE statements of `del_fem_mesh_points` and `del_fem_mesh_cells` (01-scope 5.9): the bytes there are what mesh's own `points` and `cells` hand back (proofs/MeshBlocks.antt)

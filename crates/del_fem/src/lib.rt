@@ -13,7 +13,7 @@ ghost use Rattle.del_fem.specs.Exports.{IsBendingExport, IsStrainExport, IsGreen
 ghost use Rattle.del_fem.specs.Exports.{IsSkinExport, IsMeshExport, IsPointsExport, IsCellsExport, version};
 
 use material::Material;
-use mesh::Mesh;
+use refusal::{ACCEPTED, Refusal};
 
 // Which header these functions fit.
 #[unsafe(no_mangle)]
@@ -56,7 +56,7 @@ pub extern "C" fn del_fem_quadratic_bending_wdw(
 ) -> u32
     ensures { IsBendingExport binary64 p_ini.now p_def.now result values.new }
 {
-    values::put_bending(quadratic_bending::wdw(*p_ini, *p_def), values)
+    values::give(quadratic_bending::wdw(*p_ini, *p_def), values)
 }
 
 // Three strains, then their 27 derivatives.
@@ -68,7 +68,7 @@ pub extern "C" fn del_fem_stvk_tri3_wdw(
 ) -> u32
     ensures { IsStrainExport binary64 p_ini.now p_def.now result values.new }
 {
-    values::put_strain(stvk_tri3::wdw(*p_ini, *p_def), values)
+    values::give(stvk_tri3::wdw(*p_ini, *p_def), values)
 }
 
 // The three of the Green-Lagrange strain, then their 27 derivatives.
@@ -80,7 +80,7 @@ pub extern "C" fn del_fem_stvk_tri3_wdw_green_lagrange(
 ) -> u32
     ensures { IsGreenLagrangeExport binary64 p_ini.now p_def.now result values.new }
 {
-    values::put_strain(stvk_tri3::wdw_green_lagrange(*p_ini, *p_def), values)
+    values::give(stvk_tri3::wdw_green_lagrange(*p_ini, *p_def), values)
 }
 
 // The StVK energy, its gradient of 9, its Hessian of 81.
@@ -98,7 +98,7 @@ pub extern "C" fn del_fem_stvk_tri3_wdwddw_(
     ensures { IsStvkExport binary64 p0.now p1.now (material_of binary64 stiffness density thickness a b) result values.new }
 {
     let material = Material::of_words(stiffness, density, thickness, a, b);
-    values::put_energy(stvk_tri3::wdwddw_(*p0, *p1, material), values)
+    values::give(stvk_tri3::wdwddw_(*p0, *p1, material), values)
 }
 
 // The plate's energy, its gradient of 9, its Hessian of 81.
@@ -116,7 +116,7 @@ pub extern "C" fn del_fem_mitc_tri3_w_dw_ddw_plate_bending(
     ensures { IsPlateExport binary64 p.now u.now (material_of binary64 stiffness density thickness a b) result values.new }
 {
     let material = Material::of_words(stiffness, density, thickness, a, b);
-    values::put_energy(mitc_tri3::w_dw_ddw_plate_bending(*p, *u, material), values)
+    values::give(mitc_tri3::w_dw_ddw_plate_bending(*p, *u, material), values)
 }
 
 // The lumped masses, three for each vertex.
@@ -135,7 +135,7 @@ pub extern "C" fn del_fem_mitc_tri3_mass_lumped_plate_bending(
         «vtx2mass».old result «vtx2mass».new }
 {
     let material = Material::of_words(stiffness, density, thickness, a, b);
-    mitc_tri3::mass_lumped_plate_bending(tri2vtx, vtx2xy, material, vtx2mass)
+    refusal::number(&mitc_tri3::mass_lumped_plate_bending(tri2vtx, vtx2xy, material, vtx2mass))
 }
 
 // The energy of a whole skin and the place of a refusal, each behind a reference, and the gradient, three numbers for each point.
@@ -157,10 +157,18 @@ pub extern "C" fn del_fem_skin_wdw(
         «vtx2dw».old result place.new w.new «vtx2dw».new }
 {
     let material = Material::of_words(stiffness, density, thickness, a, b);
-    let skin = skin::wdw(vtx2ini, vtx2def, tri2vtx, material, vtx2dw);
-    *place = skin.place;
-    *w = skin.w;
-    skin.number
+    match skin::wdw(vtx2ini, vtx2def, tri2vtx, material, vtx2dw) {
+        Ok(energy) => {
+            *place = 0;
+            *w = energy;
+            ACCEPTED
+        }
+        Err(refused) => {
+            *place = refused.place;
+            *w = 0.0;
+            refused.refusal.number()
+        }
+    }
 }
 
 // How many points and triangles a mesh file has, or the place where it is refused, each behind a reference.
@@ -174,23 +182,17 @@ pub extern "C" fn del_fem_mesh_read(
     ensures { IsMeshExport file.now result n.new m.new place.new }
 {
     match mesh::read(file) {
-        Mesh::Read {
-            n: vertices,
-            m: triangles,
-            points: _,
-            cells: _,
-            types: _,
-        } => {
-            *n = vertices;
-            *m = triangles;
+        Ok(mesh) => {
+            *n = mesh.n;
+            *m = mesh.m;
             *place = 0;
-            refusal::ACCEPTED
+            ACCEPTED
         }
-        Mesh::Refused(at) => {
+        Err(at) => {
             *n = 0;
             *m = 0;
             *place = at;
-            refusal::BAD_FILE
+            Refusal::BadFile.number()
         }
     }
 }
@@ -201,21 +203,15 @@ pub extern "C" fn del_fem_mesh_points(file: &[u8], place: &mut usize, length: &m
     ensures { IsPointsExport file.now result place.new length.new }
 {
     match mesh::read(file) {
-        Mesh::Read {
-            n,
-            m: _,
-            points,
-            cells: _,
-            types: _,
-        } => {
-            *place = points;
-            *length = 24 * n;
-            refusal::ACCEPTED
+        Ok(mesh) => {
+            *place = mesh.points;
+            *length = 24 * mesh.n;
+            ACCEPTED
         }
-        Mesh::Refused(at) => {
+        Err(at) => {
             *place = at;
             *length = 0;
-            refusal::BAD_FILE
+            Refusal::BadFile.number()
         }
     }
 }
@@ -226,21 +222,15 @@ pub extern "C" fn del_fem_mesh_cells(file: &[u8], place: &mut usize, length: &mu
     ensures { IsCellsExport file.now result place.new length.new }
 {
     match mesh::read(file) {
-        Mesh::Read {
-            n: _,
-            m,
-            points: _,
-            cells,
-            types: _,
-        } => {
-            *place = cells;
-            *length = 16 * m;
-            refusal::ACCEPTED
+        Ok(mesh) => {
+            *place = mesh.cells;
+            *length = 16 * mesh.m;
+            ACCEPTED
         }
-        Mesh::Refused(at) => {
+        Err(at) => {
             *place = at;
             *length = 0;
-            refusal::BAD_FILE
+            Refusal::BadFile.number()
         }
     }
 }

@@ -6,7 +6,7 @@ use Rattle.float.proofs.Unique.{only}
 use Rattle.vec3.specs.declared.V3.{V3}
 use Rattle.vec3.specs.declared.Divided.{Divided}
 use Rattle.del_geo_core.specs.declared.tri2.SignedArea.{SignedArea}
-use Rattle.del_geo_core.specs.declared.tri2.Tri2.{Tri2}
+use Rattle.del_geo_core.specs.Tri2.{Tri2}
 use Rattle.del_geo_core.specs.declared.tri2.V2.{V2}
 use Rattle.del_geo_core.specs.declared.tri3.NormalArea.{NormalArea}
 use Rattle.del_geo_core.specs.declared.curve_linear_coords.DualBasis.{DualBasis}

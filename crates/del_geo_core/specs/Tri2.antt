@@ -1,13 +1,25 @@
 -- The signed area of a plane triangle, and which way it turns (01-scope 3.2: plane area).
-use Rattle.std.specs.Prelude.{Bool, true, false, cond, Float}
+use Rattle.std.specs.Prelude.{Bool, true, false, cond, List, Float}
 use Rattle.std.specs.Float.{Format}
 use Rattle.std.specs.Float.Ieee.{lt}
+use Rattle.float.specs.Lists.{◌!◌, ◌!!◌}
 use Rattle.float.specs.Ops.{ops}
 use Rattle.del_geo_core.specs.declared.tri2.SignedArea.{SignedArea}
-use Rattle.del_geo_core.specs.declared.tri2.Tri2.{Tri2}
+use Rattle.del_geo_core.specs.declared.tri.Tri.{Tri}
 use Rattle.del_geo_core.specs.declared.tri2.Turn.{Turn}
 use Rattle.del_geo_core.specs.declared.tri2.Turn.TheVariants.{Left, Right, Flat}
 use Rattle.del_geo_core.specs.declared.tri2.V2.{V2}
+
+abbrev pub Tri2 : Type 0
+Tri2 = Tri V2
+
+-- a point, from a list of its numbers
+abbrev pub point_of : List Float → V2
+point_of a = record { x = a ! 0; y = a ! 1 }
+
+-- a triangle, from a list of its corners
+abbrev pub corners_of : List (List Float) → Tri2
+corners_of p = record { p0 = point_of (p !! 0); p1 = point_of (p !! 1); p2 = point_of (p !! 2) }
 
 unfoldable pub is_right_of : Turn → Bool
 is_right_of Left = false

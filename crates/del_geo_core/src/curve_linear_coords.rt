@@ -14,6 +14,7 @@ pub struct DualBasis {
 }
 
 // Across g1 and g2, scaled by 1 / its dot with g0.
+#[tactic(auto, unfolding(crate::specs::CurveLinearCoords::contravariant_of))]
 pub fn contravariant(g0: V3, g1: V3, g2: V3) -> Divided
     ensures { result ≡ contravariant_of binary64 g0 g1 g2 }
 {
@@ -21,6 +22,7 @@ pub fn contravariant(g0: V3, g1: V3, g2: V3) -> Divided
     vec3::over(gu, vec3::dot(gu, g0))
 }
 
+#[tactic(auto, unfolding(crate::specs::CurveLinearCoords::inverse_of))]
 pub fn inverse(g0: V3, g1: V3, g2: V3) -> DualBasis
     ensures { result ≡ inverse_of binary64 g0 g1 g2 }
 {

@@ -4,5 +4,6 @@
 pub mod curve_linear_coords;
 pub mod edge;
 pub mod mat3_row_major;
+pub mod tri;
 pub mod tri2;
 pub mod tri3;

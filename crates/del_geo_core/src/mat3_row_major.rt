@@ -14,6 +14,7 @@ pub struct Matrix3 {
 }
 
 // The dot of each row with v.
+#[tactic(auto, unfolding(crate::specs::Mat3RowMajor::mult_vec_of))]
 pub fn mult_vec(m: Matrix3, v: V3) -> V3
     ensures { result ≡ mult_vec_of binary64 m v }
 {

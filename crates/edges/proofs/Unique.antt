@@ -3,8 +3,8 @@ use mathlib.Core.Path.{◌≡◌}
 use lib.Ieee.{Format}
 use Rattle.float.proofs.Unique.{only}
 use Rattle.del_geo_core.specs.declared.curve_linear_coords.DualBasis.{DualBasis}
-use Rattle.del_geo_core.specs.declared.tri2.Tri2.{Tri2}
-use Rattle.del_geo_core.specs.declared.tri3.Tri3.{Tri3}
+use Rattle.del_geo_core.specs.Tri2.{Tri2}
+use Rattle.del_geo_core.specs.Tri3.{Tri3}
 use Rattle.vec3.specs.declared.V3.{V3}
 use Rattle.edges.specs.Edges.{plane_of, space_of, glstrain_of, gu_gu_of}
 use Rattle.edges.specs.declared.Gd.{Gd}

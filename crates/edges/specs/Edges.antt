@@ -3,8 +3,8 @@ use Rattle.std.specs.Float.{Format}
 use Rattle.float.specs.Ops.{ops}
 use Rattle.vec3.specs.Vec3.{dot_of, sub_of}
 use Rattle.del_geo_core.specs.declared.curve_linear_coords.DualBasis.{DualBasis}
-use Rattle.del_geo_core.specs.declared.tri2.Tri2.{Tri2}
-use Rattle.del_geo_core.specs.declared.tri3.Tri3.{Tri3}
+use Rattle.del_geo_core.specs.Tri2.{Tri2}
+use Rattle.del_geo_core.specs.Tri3.{Tri3}
 use Rattle.vec3.specs.declared.V3.{V3}
 use Rattle.edges.specs.declared.Gd.{Gd}
 use Rattle.edges.specs.declared.GuGu.{GuGu}

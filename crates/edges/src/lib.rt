@@ -35,6 +35,7 @@ pub struct GuGu {
 }
 
 // Of a plane triangle.
+#[tactic(auto, unfolding(crate::specs::Edges::plane_of))]
 pub fn plane(p: Tri2) -> Gd
     ensures { result ≡ plane_of binary64 p }
 {
@@ -52,6 +53,7 @@ pub fn plane(p: Tri2) -> Gd
 }
 
 // Of a triangle in space.
+#[tactic(auto, unfolding(crate::specs::Edges::space_of))]
 pub fn space(p: Tri3) -> Gd
     ensures { result ≡ space_of binary64 p }
 {
@@ -61,6 +63,7 @@ pub fn space(p: Tri3) -> Gd
 }
 
 // The Green-Lagrange strain along the edges, in the engineer's notation, from the rest edges and the deformed ones.
+#[tactic(auto, unfolding(crate::specs::Edges::glstrain_of))]
 pub fn glstrain(gd0: Gd, gd: Gd) -> V3
     ensures { result ≡ glstrain_of binary64 gd0 gd }
 {
@@ -71,6 +74,7 @@ pub fn glstrain(gd0: Gd, gd: Gd) -> V3
     }
 }
 
+#[tactic(auto, unfolding(crate::specs::Edges::gu_gu_of))]
 pub fn gu_gu(gu: DualBasis) -> GuGu
     ensures { result ≡ gu_gu_of binary64 gu }
 {

@@ -1,10 +1,10 @@
 -- The marked examples of 01-scope 7, in its order: what the definitions that the contracts cite give, beside what 01-scope says. Doubles stand as words, so that the sign of a
 -- zero and the bits of the NaN count.
+use Rattle.refusal.specs.Answers.{EnergyGiven}
 use Rattle.std.specs.Prelude.{◌≡◌, List, [], ◌∷◌, map, ℕ, ◌*◌, Float, replicate}
 use Rattle.std.specs.Float.{binary64}
 use Rattle.float.specs.Lists.{◌!◌, total}
 use Rattle.root.specs.Root.{root_word_of}
-use Rattle.refusal.specs.declared.Energy.{Energy}
 use Rattle.material.specs.Material.{lame_of, stock_sheet}
 use Rattle.material.specs.declared.LamePair.{LamePair}
 use Rattle.material.specs.declared.Stiffness.{Stiffness}
@@ -12,20 +12,20 @@ use Rattle.material.specs.declared.Stiffness.TheVariants.{Lame}
 use Rattle.corners.specs.Plane as plane
 use Rattle.corners.specs.Space as space
 use Rattle.del_geo_core.specs.Tri2.{signed_area_of}
-use Rattle.del_geo_core.specs.declared.tri2.Tri2.{Tri2}
+use Rattle.del_geo_core.specs.Tri2.{Tri2}
 use Rattle.del_geo_core.specs.declared.tri2.Turn.{Turn}
 use Rattle.del_geo_core.specs.declared.tri2.Turn.TheVariants.{Left, Right, Flat}
-use Rattle.del_geo_core.specs.declared.tri3.Tri3.{Tri3}
+use Rattle.del_geo_core.specs.Tri3.{Tri3}
 use Rattle.mitc_tri3.specs.Example.{points, thick, rho}
 use Rattle.mitc_tri3.specs.Masses.{number_of, buffer_of}
 use Rattle.mitc_tri3.specs.Plate.{plate_of}
+use Rattle.stvk_tri3.specs.Strain.{StrainGiven}
 use Rattle.stvk_tri3.specs.Example.{at_rest, pulled}
 use Rattle.stvk_tri3.specs.GreenLagrange.{green_lagrange_of}
 use Rattle.stvk_tri3.specs.Strain as strain
 use Rattle.stvk_tri3.specs.Stvk.{stvk_of}
-use Rattle.stvk_tri3.specs.declared.Strain.{Strain}
+use Rattle.quadratic_bending.specs.Bending.{BendingGiven}
 use Rattle.quadratic_bending.specs.Bending as bending
-use Rattle.quadratic_bending.specs.declared.Bending.{Bending}
 use Rattle.examples.specs.Words.{double, doubles, word, words, +0, +1, +2, +3, +4, +6, +7, +12, +24, +72, -0, -1, -2, -3}
 
 -- what is given, and what 01-scope says
@@ -75,7 +75,7 @@ p = plane.corners_of (doubles (+0 ∷ +0 ∷ []) ∷ doubles (+1 ∷ +0 ∷ []) 
 abbrev pub u : Tri3
 u = space.corners_of (doubles (+0 ∷ +0 ∷ +0 ∷ []) ∷ doubles (+1 ∷ +0 ∷ +0 ∷ []) ∷ doubles (+0 ∷ +0 ∷ +0 ∷ []) ∷ [])
 
-unfoldable pub plate : (thk : ℕ) → Energy
+unfoldable pub plate : (thk : ℕ) → EnergyGiven
 plate thk = plate_of binary64 p u (double thk) stiffness
 
 -- the sheet of 9 at rest in space, and pulled to twice its length in x, as in 10
@@ -85,20 +85,20 @@ p0 = space.corners_of (doubles (+0 ∷ +0 ∷ +0 ∷ []) ∷ doubles (+1 ∷ +0 
 abbrev pub p1 : Tri3
 p1 = space.corners_of (doubles (+0 ∷ +0 ∷ +0 ∷ []) ∷ doubles (+2 ∷ +0 ∷ +0 ∷ []) ∷ doubles (+0 ∷ +1 ∷ +0 ∷ []) ∷ [])
 
-unfoldable pub stvk : Energy
+unfoldable pub stvk : EnergyGiven
 stvk = stvk_of binary64 p0 p1 stiffness
 
-abbrev strains : Strain
+abbrev strains : StrainGiven
 strains = strain.ported_of binary64 p p1
 
 -- 14 and 15: both strains of one sheet
-abbrev ported : Strain
+abbrev ported : StrainGiven
 ported = strain.ported_of binary64 (plane.corners_of at_rest) (space.corners_of pulled)
 
-abbrev book : Strain
+abbrev book : StrainGiven
 book = green_lagrange_of binary64 (plane.corners_of at_rest) (space.corners_of pulled)
 
-abbrev bends : Bending
+abbrev bends : BendingGiven
 bends =
     let origin = doubles (+0 ∷ +0 ∷ +0 ∷ []) in
     let ini = doubles (+0 ∷ +2 ∷ +0 ∷ []) ∷ doubles (+0 ∷ -2 ∷ +0 ∷ []) ∷ origin ∷ doubles (+2 ∷ +0 ∷ +0 ∷ []) ∷ [] in
@@ -132,7 +132,7 @@ area x1 y1 x2 y2 =
     word signed.area ∷ turn_number signed.turn ∷ []
 
 -- the table, over the answers of 8 at thickness 2 and 0 and that of 9
-unfoldable pub table_of : (plate2 plate0 stvk : Energy) → List Row
+unfoldable pub table_of : (plate2 plate0 stvk : EnergyGiven) → List Row
 table_of plate2 plate0 stvk =
     -- 1. names 0 1 2: vertices 0, 1, 2: 12, 1, 1 each; vertex 3: 0, 0, 0
     masses (0 ∷ 1 ∷ 2 ∷ []) is (0

@@ -6,7 +6,7 @@ use lib.Ieee.{Format, low}
 use Rattle.float.proofs.Scan.{both}
 use Rattle.rounding.specs.Whole.{is_whole_up_to}
 use Rattle.rounding.proofs.Whole.{whole, coordinate}
-use Rattle.del_geo_core.specs.declared.tri3.Tri3.{Tri3}
+use Rattle.del_geo_core.specs.Tri3.{Tri3}
 use Rattle.vec3.specs.declared.V3.{V3}
 use Rattle.green_lagrange.specs.Sheet.{is_whole_point, is_whole}
 use Rattle.green_lagrange.proofs.Vector.{Nums, minus, Dyads}

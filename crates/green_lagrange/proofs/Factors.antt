@@ -10,7 +10,7 @@ use Rattle.rounding.specs.Exact.{Num, ◌⊠◌}
 use Rattle.rounding.specs.Dyadic.{Dyad}
 use Rattle.rounding.proofs.Dyadic.{dyad_add, dyad_mul}
 use Rattle.rounding.proofs.Whole.{two_dyad}
-use Rattle.del_geo_core.specs.declared.tri2.Tri2.{Tri2}
+use Rattle.del_geo_core.specs.Tri2.{Tri2}
 use Rattle.strain.specs.Strain.{rest_of_green_lagrange, gugu0_of}
 use Rattle.strain.specs.declared.GuGu.{GuGu}
 use Rattle.green_lagrange.specs.Sheet.{is_rest}

@@ -5,7 +5,7 @@ use Prim.Native.Nat.{ℕ, zero, suc, ◌+◌, ◌*◌, ◌<◌}
 use native.Mathlib.Omega.{arith}
 use lib.Ieee.Scale.{finite}
 use Rattle.float.specs.Lists.{◌!◌, every, all_finite}
-use Rattle.del_geo_core.specs.declared.tri3.Tri3.{Tri3}
+use Rattle.del_geo_core.specs.Tri3.{Tri3}
 use Rattle.places.specs.Places.{component as coordinate}
 use Rattle.vec3.specs.declared.V3.{V3}
 use Rattle.strain.specs.Strain.{flat, dw_of}

@@ -14,7 +14,7 @@ use Rattle.rounding.proofs.Dyadic.{dyad_sub}
 use Rattle.rounding.proofs.Whole.{natural, zero_dyad}
 use Rattle.del_geo_core.specs.CurveLinearCoords.{contravariant_of}
 use Rattle.vec3.specs.Vec3.{norm_of, over_of, unit_of, cross_of}
-use Rattle.del_geo_core.specs.declared.tri2.Tri2.{Tri2}
+use Rattle.del_geo_core.specs.Tri2.{Tri2}
 use Rattle.del_geo_core.specs.declared.tri2.V2.{V2}
 use Rattle.vec3.specs.declared.V3.{V3}
 use Rattle.edges.specs.Edges.{plane_of}

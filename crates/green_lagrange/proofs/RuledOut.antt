@@ -30,6 +30,6 @@ pub met : IsBookStrain binary64 2 1 (space.corners_of pulled) (green_lagrange_of
 met = green_lagrange_lem at_rest pulled refl in_family
 
 pub not_ported : IsBookStrain binary64 2 1 (space.corners_of pulled) (ported_of binary64 (plane.corners_of at_rest) (space.corners_of pulled)) → ⊥
-unfolding value mag sign sub mul div of_bits every root_of first_of kernel_number zero_divisor_of vec3.norm_of vec3.over_of vec3.unit_of plane.is_finite_of space.is_finite_of edges.plane_of edges.space_of
+unfolding value mag sign sub mul div of_bits every root_of first_of kernel_number zero_divisor_of vec3.norm_of vec3.over_of vec3.unit_of edges.plane_of edges.space_of
     edges.glstrain_of strain.rest_of strain.gugu0_of strain.w_of strain.hoge_of strain.dw_k_of strain.dw_of strain.values_of tested_of tests_of strain_of answer_of
 not_ported h = false≢true (eq-eqb _ _ h.xx.same.is)

@@ -14,13 +14,12 @@ use Rattle.float.proofs.Scan.{every_append}
 use Rattle.refusal.specs.Refusal.{accepted}
 use Rattle.corners.specs.Plane as plane
 use Rattle.corners.specs.Space as space
-use Rattle.del_geo_core.specs.declared.tri2.Tri2.{Tri2}
-use Rattle.del_geo_core.specs.declared.tri3.Tri3.{Tri3}
+use Rattle.del_geo_core.specs.Tri2.{Tri2}
+use Rattle.del_geo_core.specs.Tri3.{Tri3}
 use Rattle.strain.specs.Strain.{rest_of_green_lagrange, w_of, dw_of, values_of}
 use Rattle.strain.specs.declared.Values.{Values}
 use Rattle.stvk_tri3.specs.GreenLagrange.{IsGreenLagrange}
-use Rattle.stvk_tri3.specs.Strain.{tested_of, tests_of}
-use Rattle.stvk_tri3.specs.declared.Strain.{Strain}
+use Rattle.stvk_tri3.specs.Strain.{StrainGiven, tested_of, tests_of}
 use Rattle.stvk_tri3.proofs.StrainAnswer.{numbers_exactly, accepted_values}
 use Rattle.green_lagrange.specs.Book.{DeformationGradient, gradient, IsBookStrain}
 use Rattle.green_lagrange.specs.Sheet.{most_doublings, largest_coordinate, is_rest, is_whole, InFamily}
@@ -35,7 +34,7 @@ use Rattle.green_lagrange.proofs.Vector.{e_x, e_y, e_z, good}
 use Rattle.green_lagrange.proofs.Rest.{points, divisors}
 use Rattle.green_lagrange.proofs.Values.{Margins, Component, xx, yy, xy}
 
-module _ (f : Format) {i j B S : ℕ} (m : Margins f i j B S) (p_ini p_def : List (List Float)) {r : Strain} (is : IsGreenLagrange f p_ini p_def r)
+module _ (f : Format) {i j B S : ℕ} (m : Margins f i j B S) (p_ini p_def : List (List Float)) {r : StrainGiven} (is : IsGreenLagrange f p_ini p_def r)
     (rest : is_rest f (2 ^ i) (2 ^ j) (plane.corners_of p_ini) ≡ true) (deformed : is_whole f B (space.corners_of p_def) ≡ true) where
   abbrev ini : Tri2
   ini = plane.corners_of p_ini
@@ -74,7 +73,6 @@ module _ (f : Format) {i j B S : ℕ} (m : Margins f i j B S) (p_ini p_def : Lis
   z = xy f m ini rest def deformed
 
   inputs_good : not (plane.is_finite_of ini && space.is_finite_of def) ≡ false
-  unfolding plane.is_finite_of space.is_finite_of
   inputs_good =
       let p = points f i j m.small ini rest in
       let c = corners f B def deformed in
@@ -148,6 +146,6 @@ margins h k = record {
   derivatives = lit< tt;
 }
 
-pub green_lagrange_lem : {i j : ℕ} (p_ini p_def : List (List Float)) {r : Strain} → IsGreenLagrange binary64 p_ini p_def r
+pub green_lagrange_lem : {i j : ℕ} (p_ini p_def : List (List Float)) {r : StrainGiven} → IsGreenLagrange binary64 p_ini p_def r
     → InFamily binary64 i j (plane.corners_of p_ini) (space.corners_of p_def) → IsBookStrain binary64 (2 ^ i) (2 ^ j) (space.corners_of p_def) r
 green_lagrange_lem p_ini p_def is s = book binary64 (margins s.side_x s.side_y) p_ini p_def is s.rest s.deformed

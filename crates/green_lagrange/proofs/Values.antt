@@ -16,8 +16,8 @@ use Rattle.rounding.proofs.Dyadic.{whole_room, dyad_as, dyad_neg, dyad_add, dyad
 use Rattle.rounding.proofs.Whole.{half_dyad}
 use Rattle.places.specs.Places.{component as coordinate}
 use Rattle.vec3.specs.Vec3.{dot_of}
-use Rattle.del_geo_core.specs.declared.tri2.Tri2.{Tri2}
-use Rattle.del_geo_core.specs.declared.tri3.Tri3.{Tri3}
+use Rattle.del_geo_core.specs.Tri2.{Tri2}
+use Rattle.del_geo_core.specs.Tri3.{Tri3}
 use Rattle.vec3.specs.declared.V3.{V3}
 use Rattle.edges.specs.Edges.{plane_of, space_of, glstrain_of}
 use Rattle.strain.specs.Strain.{hoge_of, dw_k_of}

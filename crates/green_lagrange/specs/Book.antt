@@ -1,11 +1,11 @@
 -- The Green-Lagrange strain as books have it (01-scope 6.5): of a sheet at rest on (0, 0), (a, 0) and (0, b), from its deformed corners, with its derivatives by them, in exact fractions.
+use Rattle.stvk_tri3.specs.Strain.{StrainGiven}
 use Rattle.std.specs.Prelude.{◌≡◌, ℕ, zero, suc, ◌+◌, ◌*◌, ◌<◌}
 use Rattle.std.specs.Float.{Format}
 use Rattle.float.specs.Lists.{◌!◌}
 use Rattle.refusal.specs.Refusal.{accepted}
-use Rattle.del_geo_core.specs.declared.tri3.Tri3.{Tri3}
+use Rattle.del_geo_core.specs.Tri3.{Tri3}
 use Rattle.vec3.specs.declared.V3.{V3}
-use Rattle.stvk_tri3.specs.declared.Strain.{Strain}
 use Rattle.green_lagrange.specs.Fraction.{Fraction, Is, ◌∕◌, ◌∔◌, ◌∸◌, ◌⋅◌, ◌÷◌, exact}
 
 -- three numbers, for x, y, z in space
@@ -82,7 +82,7 @@ module _ (f : Format) where
   gradient a b def = record { X = column def.p0 def.p1 a; Y = column def.p0 def.p2 b }
 
   -- of ANY answer r: accepted, its three values are that strain, and its 27 derivatives are that strain's, by coordinate i of corner c
-  pub record IsBookStrain (a b : ℕ) (def : Tri3) (r : Strain) : Type 0 where
+  pub record IsBookStrain (a b : ℕ) (def : Tri3) (r : StrainGiven) : Type 0 where
     pub accepts : r.number ≡ accepted
     pub xx : Is f (r.w ! 0) (green_lagrange (gradient a b def)).XX
     pub yy : Is f (r.w ! 1) (green_lagrange (gradient a b def)).YY

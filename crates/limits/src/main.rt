@@ -3,23 +3,54 @@
 // are counted, and between number and sum stand the place and the bits of the energy.
 #![tactic(auto)]
 
-ghost use Rattle.std.specs.Prelude.{◌+◌, ◌≤◌, ◌<◌, length};
+ghost use Rattle.std.specs.Prelude.{◌+◌, ◌≤◌, length};
 
 use material::Material;
+use refusal::ACCEPTED;
 use std::io;
 
-#[derive(Drop)]
+#[derive(Clone, Copy)]
 enum Routine {
     Masses,
     Skin,
 }
 
-// Each more than `from` by the square of 0, step, 2 step, ..
-fn fill(xs: &mut [f64], from: f64, step: f64) {
+// The routine that is run; how many numbers at rest and deformed (none for masses), names and places of the buffer there are, and the last name.
+#[derive(Clone, Copy)]
+struct Panel {
+    routine: Routine,
+    ini: usize,
+    def: usize,
+    t: usize,
+    b: usize,
+    last: usize,
+}
+
+// At every limit.
+const MASSES: Panel = Panel {
+    routine: Routine::Masses,
+    ini: 131_072,
+    def: 0,
+    t: 393_216,
+    b: 196_608,
+    last: 65_535,
+};
+
+const SKIN: Panel = Panel {
+    routine: Routine::Skin,
+    ini: 196_608,
+    def: 196_608,
+    t: 393_216,
+    b: 196_608,
+    last: 0,
+};
+
+// The squares of 0, 1, 2, ..
+fn fill_squares(xs: &mut [f64]) {
     let mut x = 0.0;
-    for i in 0..xs.len() {
-        xs[i] = from + x * x;
-        x = x + step;
+    for square in xs.iter_mut() {
+        *square = x * x;
+        x += 1.0;
     }
 }
 
@@ -34,26 +65,13 @@ fn name(triangle: usize, corner: usize) -> usize {
 }
 
 fn fill_names(tri2vtx: &mut [usize]) {
-    for i in 0..tri2vtx.len() {
-        tri2vtx[i] = name(i / 3, i % 3);
+    for (i, place) in tri2vtx.iter_mut().enumerate() {
+        *place = name(i / 3, i % 3);
     }
 }
 
-fn sum(xs: &[f64]) -> f64 {
-    let mut sum = 0.0;
-    for i in 0..xs.len() {
-        sum = sum + xs[i];
-    }
-    sum
-}
-
-fn put(rt: &impl Print, n: u64) -> io::Result<()> {
-    print!(rt; "{n} ")
-}
-
-fn put_bits(rt: &impl Print, x: f64) -> io::Result<()> {
-    let w = float::to_word(x);
-    print!(rt; "{w:016x}")
+fn sum_bits(xs: &[f64]) -> u64 {
+    float::to_word(xs.iter().fold(0.0, |sum, &x| sum + x))
 }
 
 fn masses(
@@ -64,14 +82,14 @@ fn masses(
     last: usize,
 ) -> io::Result<()> {
     let material = Material::lame(2.0, 1.0, 0.0, 0.0);
-    let number = mitc_tri3::mass_lumped_plate_bending(tri2vtx, vtx2xy, material, vtx2mass);
-    put(rt, vtx2xy.len() as u64)?;
-    put(rt, tri2vtx.len() as u64)?;
-    put(rt, vtx2mass.len() as u64)?;
-    put(rt, last as u64)?;
-    put(rt, number as u64)?;
-    put_bits(rt, sum(vtx2mass))?;
-    println!(rt)
+    let answer = mitc_tri3::mass_lumped_plate_bending(tri2vtx, vtx2xy, material, vtx2mass);
+    print!(rt;
+        "{} {} {} {last} ",
+        vtx2xy.len(),
+        tri2vtx.len(),
+        vtx2mass.len()
+    )?;
+    println!(rt; "{} {:016x}", refusal::number(&answer), sum_bits(vtx2mass))
 }
 
 fn whole_skin(
@@ -83,50 +101,52 @@ fn whole_skin(
     last: usize,
 ) -> io::Result<()> {
     let material = Material::lame(0.0, 0.0, 1.0, 2.0);
-    let answer = skin::wdw(vtx2ini, vtx2def, tri2vtx, material, vtx2dw);
-    put(rt, vtx2ini.len() as u64)?;
-    put(rt, vtx2def.len() as u64)?;
-    put(rt, tri2vtx.len() as u64)?;
-    put(rt, vtx2dw.len() as u64)?;
-    put(rt, last as u64)?;
-    put(rt, answer.number as u64)?;
-    put(rt, answer.place as u64)?;
-    put_bits(rt, answer.w)?;
-    print!(rt; " ")?;
-    put_bits(rt, sum(vtx2dw))?;
-    println!(rt)
+    let (number, place, w) = match skin::wdw(vtx2ini, vtx2def, tri2vtx, material, vtx2dw) {
+        Ok(w) => (ACCEPTED, 0, w),
+        Err(refused) => (refused.refusal.number(), refused.place, 0.0),
+    };
+    print!(rt;
+        "{} {} {} {} {last} ",
+        vtx2ini.len(),
+        vtx2def.len(),
+        tri2vtx.len(),
+        vtx2dw.len()
+    )?;
+    println!(rt;
+        "{number} {place} {:016x} {:016x}",
+        float::to_word(w),
+        sum_bits(vtx2dw)
+    )
 }
 
 // The points' numbers are the squares of 0, 1, 2, ..: so no three vertices are in line, whether each has two of them or three. A vertex is deformed to where the next one is at
 // rest, so that one list holds both. The buffer holds sevens on entry.
 fn answer(
     rt: &impl Print,
-    routine: Routine,
+    panel: Panel,
     points: &mut [f64],
-    ini: usize,
-    def: usize,
     tri2vtx: &mut [usize],
     buffer: &mut [f64],
-    last: usize,
 ) -> io::Result<()>
-    requires ini_in_bounds { ini ≤ length points.old }
-    requires def_in_bounds { def + 3 ≤ length points.old }
-    requires tri2vtx_nonzero { 0 < length tri2vtx.old }
+    requires ini_in_bounds { panel.ini ≤ length points.old }
+    requires def_in_bounds { panel.def + 3 ≤ length points.old }
 {
-    fill(points, 0.0, 1.0);
-    fill(buffer, 7.0, 0.0);
+    fill_squares(points);
+    let points = &points[..];
+    buffer.fill(7.0);
     fill_names(tri2vtx);
-    let end = tri2vtx.len() - 1;
-    tri2vtx[end] = last;
-    match routine {
-        Routine::Masses => masses(rt, &points[0..ini], tri2vtx, buffer, last),
+    if let Some(name) = tri2vtx.last_mut() {
+        *name = panel.last;
+    }
+    match panel.routine {
+        Routine::Masses => masses(rt, &points[..panel.ini], tri2vtx, buffer, panel.last),
         Routine::Skin => whole_skin(
             rt,
-            &points[0..ini],
-            &points[3..def + 3],
+            &points[..panel.ini],
+            &points[3..panel.def + 3],
             tri2vtx,
             buffer,
-            last,
+            panel.last,
         ),
     }
 }
@@ -140,76 +160,89 @@ fn names() -> [usize; 393_219] {
     [0usize; 393_219]
 }
 
-// With so many numbers at rest and deformed (none for masses), names and places of the buffer.
-fn run(
-    rt: &impl Print,
-    routine: Routine,
-    ini: usize,
-    def: usize,
-    t: usize,
-    b: usize,
-    last: usize,
-) -> io::Result<()>
-    requires ini_bound { ini ≤ 196614 }
-    requires def_bound { def ≤ 196611 }
-    requires t_nonzero { 0 < t }
-    requires t_bound { t ≤ 393219 }
-    requires b_bound { b ≤ 196614 }
+fn run(rt: &impl Print, panel: Panel) -> io::Result<()>
+    requires ini_bound { panel.ini ≤ 196614 }
+    requires def_bound { panel.def ≤ 196611 }
+    requires t_bound { panel.t ≤ 393219 }
+    requires b_bound { panel.b ≤ 196614 }
 {
     let mut points = numbers();
     let mut tri2vtx = names();
     let mut buffer = numbers();
     answer(
         rt,
-        routine,
+        panel,
         &mut points,
-        ini,
-        def,
-        &mut tri2vtx[0..t],
-        &mut buffer[0..b],
-        last,
+        &mut tri2vtx[..panel.t],
+        &mut buffer[..panel.b],
     )
 }
 
 fn main(rt: HostRuntime) -> io::Result<()> {
+    let run = |panel| run(&rt, panel);
     // At every limit, without and with a left-over number.
-    run(&rt, Routine::Masses, 131_072, 0, 393_216, 196_608, 65_535)?;
-    run(&rt, Routine::Masses, 131_073, 0, 393_216, 196_608, 65_535)?;
+    run(MASSES)?;
+    run(Panel {
+        ini: 131_073,
+        ..MASSES
+    })?;
     // A vertex more, a triangle more; a name too many, a place too many.
-    run(&rt, Routine::Masses, 131_074, 0, 393_216, 196_611, 65_535)?;
-    run(&rt, Routine::Masses, 131_072, 0, 393_219, 196_608, 65_535)?;
-    run(&rt, Routine::Masses, 131_072, 0, 393_217, 196_608, 65_535)?;
-    run(&rt, Routine::Masses, 131_072, 0, 393_216, 196_609, 65_535)?;
+    run(Panel {
+        ini: 131_074,
+        b: 196_611,
+        ..MASSES
+    })?;
+    run(Panel {
+        t: 393_219,
+        ..MASSES
+    })?;
+    run(Panel {
+        t: 393_217,
+        ..MASSES
+    })?;
+    run(Panel {
+        b: 196_609,
+        ..MASSES
+    })?;
     // The last name one past the last vertex.
-    run(&rt, Routine::Masses, 131_072, 0, 393_216, 196_608, 65_536)?;
+    run(Panel {
+        last: 65_536,
+        ..MASSES
+    })?;
     // A skin at every limit; with the last triangle refused, since it names vertex 65,535 twice.
-    run(&rt, Routine::Skin, 196_608, 196_608, 393_216, 196_608, 0)?;
-    run(
-        &rt,
-        Routine::Skin,
-        196_608,
-        196_608,
-        393_216,
-        196_608,
-        65_535,
-    )?;
+    run(SKIN)?;
+    run(Panel {
+        last: 65_535,
+        ..SKIN
+    })?;
     // A vertex more, a triangle more; a name too many.
-    run(&rt, Routine::Skin, 196_611, 196_611, 393_216, 196_611, 0)?;
-    run(&rt, Routine::Skin, 196_608, 196_608, 393_219, 196_608, 0)?;
-    run(&rt, Routine::Skin, 196_608, 196_608, 393_217, 196_608, 0)?;
+    run(Panel {
+        ini: 196_611,
+        def: 196_611,
+        b: 196_611,
+        ..SKIN
+    })?;
+    run(Panel { t: 393_219, ..SKIN })?;
+    run(Panel { t: 393_217, ..SKIN })?;
     // A number too many at rest, deformed, in the buffer, in all three.
-    run(&rt, Routine::Skin, 196_609, 196_608, 393_216, 196_608, 0)?;
-    run(&rt, Routine::Skin, 196_608, 196_609, 393_216, 196_608, 0)?;
-    run(&rt, Routine::Skin, 196_608, 196_608, 393_216, 196_609, 0)?;
-    run(&rt, Routine::Skin, 196_609, 196_609, 393_216, 196_609, 0)?;
+    run(Panel {
+        ini: 196_609,
+        ..SKIN
+    })?;
+    run(Panel {
+        def: 196_609,
+        ..SKIN
+    })?;
+    run(Panel { b: 196_609, ..SKIN })?;
+    run(Panel {
+        ini: 196_609,
+        def: 196_609,
+        b: 196_609,
+        ..SKIN
+    })?;
     // The last name one past the last vertex.
-    run(
-        &rt,
-        Routine::Skin,
-        196_608,
-        196_608,
-        393_216,
-        196_608,
-        65_536,
-    )
+    run(Panel {
+        last: 65_536,
+        ..SKIN
+    })
 }

@@ -1,4 +1,3 @@
-pub mod Writing
 mod Filling
 mod Shown
 pub mod Unique

@@ -9,11 +9,7 @@ ghost use Rattle.float.specs.Lists.{all_finite, cleared};
 pub fn each_finite(xs: &[f64]) -> bool
     ensures { result ≡ all_finite xs.now }
 {
-    let mut ok = true;
-    for i in 0..xs.len() {
-        ok = ok & float::is_finite(xs[i]);
-    }
-    ok
+    xs.iter().fold(true, |ok, &x| ok & float::is_finite(x))
 }
 
 // The same for longer lists, by four sums side by side, which the compiler takes two at a time: a finite sum has finite terms alone.
@@ -21,21 +17,19 @@ pub fn each_finite(xs: &[f64]) -> bool
 pub fn all_finite(xs: &[f64]) -> bool
     ensures { result ≡ all_finite xs.now }
 {
+    let (fours, rest) = xs.as_chunks::<4>();
     let mut a = 0.0;
     let mut b = 0.0;
     let mut c = 0.0;
     let mut d = 0.0;
-    let end = xs.len() / 4 * 4;
-    let mut i = 0;
-    while i < end {
-        a = a + xs[i];
-        b = b + xs[i + 1];
-        c = c + xs[i + 2];
-        d = d + xs[i + 3];
-        i = i + 4;
+    for four in fours {
+        a += four[0];
+        b += four[1];
+        c += four[2];
+        d += four[3];
     }
     if float::is_finite(a + b + c + d) {
-        return each_finite(&xs[i..]);
+        return each_finite(rest);
     }
     each_finite(xs)
 }
@@ -44,7 +38,5 @@ pub fn all_finite(xs: &[f64]) -> bool
 pub fn clear(xs: &mut [f64])
     ensures { xs.new ≡ cleared binary64 xs.old }
 {
-    for i in 0..xs.len() {
-        xs[i] = 0.0;
-    }
+    xs.fill(0.0);
 }

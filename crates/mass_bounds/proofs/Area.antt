@@ -16,7 +16,7 @@ use Rattle.rounding.proofs.Nearest.{top_digit}
 use Rattle.rounding.proofs.Dyadic.{whole_room, dyad_sub, dyad_mul}
 use Rattle.rounding.proofs.Whole.{whole, Coordinate, half_dyad}
 use Rattle.del_geo_core.specs.Tri2.{area_of}
-use Rattle.del_geo_core.specs.declared.tri2.Tri2.{Tri2}
+use Rattle.del_geo_core.specs.Tri2.{Tri2}
 use Rattle.mass_bounds.specs.Shares.{twice_area}
 use Rattle.mass_bounds.proofs.Premises.{Corners}
 

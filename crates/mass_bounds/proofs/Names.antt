@@ -11,7 +11,7 @@ use Rattle.float.specs.Lists.{fold_threes}
 use Rattle.rounding.specs.Sums.{sum_of}
 use Rattle.places.specs.Plane.{corners_at}
 use Rattle.places.specs.Vertex.{when, named_by, given_to}
-use Rattle.del_geo_core.specs.declared.tri2.Tri2.{Tri2}
+use Rattle.del_geo_core.specs.Tri2.{Tri2}
 use Rattle.mass_bounds.specs.Shares.{names_of, count_of}
 
 once : (test : Bool) (p : Tri2) → length (when test p) ≡ cond test 1 0

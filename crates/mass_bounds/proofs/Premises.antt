@@ -13,7 +13,7 @@ use Rattle.rounding.specs.Whole.{unit, is_number, is_whole_up_to}
 use Rattle.rounding.proofs.Margin.{Between}
 use Rattle.rounding.proofs.Whole.{number_iff, Coordinate, coordinate}
 use Rattle.del_geo_core.specs.declared.tri2.V2.{V2}
-use Rattle.del_geo_core.specs.declared.tri2.Tri2.{Tri2}
+use Rattle.del_geo_core.specs.Tri2.{Tri2}
 use Rattle.places.specs.Plane.{point_at, corners_at, triangles}
 use Rattle.mass_bounds.specs.Range.{between, whole_at, in_range}
 

@@ -16,7 +16,7 @@ use Rattle.rounding.proofs.Chain.{near_exact, at_least_multiple}
 use Rattle.rounding.proofs.Margin.{Between, Safe, safe_mul, safe_div}
 use Rattle.rounding.proofs.Whole.{three_dyad, twelve_dyad}
 use Rattle.del_geo_core.specs.Tri2.{area_of}
-use Rattle.del_geo_core.specs.declared.tri2.Tri2.{Tri2}
+use Rattle.del_geo_core.specs.Tri2.{Tri2}
 use Rattle.masses.specs.Masses.{mass_of}
 use Rattle.masses.specs.Vertex.{share_of}
 use Rattle.mass_bounds.specs.Shares.{twice_area, weight, exact_share, over}

@@ -18,7 +18,7 @@ use Rattle.rounding.proofs.Error.{within_more, within_change, within_all}
 use Rattle.rounding.proofs.ExactSums.{sum_append, sum_product, own_sum_to, sum_to_add, sum_to_same, sum_to_zero, sum_to_one, le_greatest}
 use Rattle.places.specs.Plane.{vertices_of, corners_at, triangles}
 use Rattle.places.specs.Vertex.{when, named_by, given_to}
-use Rattle.del_geo_core.specs.declared.tri2.Tri2.{Tri2}
+use Rattle.del_geo_core.specs.Tri2.{Tri2}
 use Rattle.masses.specs.Vertex.{triangles_of}
 use Rattle.mass_bounds.specs.Shares.{twice_area, weight, exact_share, exact_mass, names_of}
 use Rattle.mass_bounds.specs.Bounds.{NearExact, AddUp, SumNear}

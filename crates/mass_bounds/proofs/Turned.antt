@@ -19,7 +19,7 @@ use Rattle.rounding.proofs.Margin.{Between}
 use Rattle.refusal.specs.Refusal.{bad_length, bad_name, bad_input, turned}
 use Rattle.material.specs.declared.Material.{Material}
 use Rattle.del_geo_core.specs.Tri2.{area_of, signed_area_of}
-use Rattle.del_geo_core.specs.declared.tri2.Tri2.{Tri2}
+use Rattle.del_geo_core.specs.Tri2.{Tri2}
 use Rattle.del_geo_core.specs.declared.tri2.Turn.TheVariants.{Right}
 use Rattle.del_geo_core.proofs.Turn.{is_right_exactly, right_below}
 use Rattle.places.specs.Plane.{triangles}

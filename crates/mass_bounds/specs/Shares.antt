@@ -5,7 +5,7 @@ use Rattle.float.specs.Lists.{Some}
 use Rattle.rounding.specs.Exact.{Num, ◌⊟◌, ◌⊠◌, Negative, value}
 use Rattle.rounding.specs.Sums.{sum_of, exact_sum}
 use Rattle.rounding.specs.Whole.{unit}
-use Rattle.del_geo_core.specs.declared.tri2.Tri2.{Tri2}
+use Rattle.del_geo_core.specs.Tri2.{Tri2}
 use Rattle.places.specs.Plane.{triangles}
 use Rattle.masses.specs.Vertex.{triangles_of}
 

@@ -2,7 +2,7 @@
 use mathlib.Core.Path.{◌≡◌}
 use lib.Ieee.{Float, Format}
 use Rattle.float.proofs.Unique.{only}
-use Rattle.del_geo_core.specs.declared.tri2.Tri2.{Tri2}
+use Rattle.del_geo_core.specs.Tri2.{Tri2}
 use Rattle.vec3.specs.declared.V3.{V3}
 use Rattle.masses.specs.Masses.{mass_of}
 

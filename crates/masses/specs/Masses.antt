@@ -4,7 +4,7 @@ use Rattle.std.specs.Float.{Format}
 use Rattle.float.specs.Lists.{cleared, fold_threes}
 use Rattle.float.specs.Ops.{ops}
 use Rattle.del_geo_core.specs.Tri2.{area_of}
-use Rattle.del_geo_core.specs.declared.tri2.Tri2.{Tri2}
+use Rattle.del_geo_core.specs.Tri2.{Tri2}
 use Rattle.vec3.specs.declared.V3.{V3}
 use Rattle.places.specs.Places.{add_triangle}
 use Rattle.places.specs.Plane.{corners_at}

@@ -10,6 +10,7 @@ use del_geo_core::tri2::Tri2;
 use vec3::V3;
 
 // Three numbers: for a vertex's translation and for its two rotations.
+#[tactic(auto, unfolding(crate::specs::Masses::mass_of))]
 pub fn mass(thick: f64, rho: f64, p: Tri2) -> V3
     ensures { result ≡ mass_of binary64 thick rho p }
 {

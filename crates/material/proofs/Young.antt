@@ -11,8 +11,7 @@ use Rattle.float.specs.Ops.{ops}
 use Rattle.float.proofs.Finite.{mul_finite, dividend_finite}
 use Rattle.float.proofs.Scan.{both}
 use Rattle.refusal.specs.Refusal.{bad_stiffness, first_of, kernel_number}
-use Rattle.refusal.specs.Answers.{bad_energy_of, energy_of, taken_of}
-use Rattle.refusal.specs.declared.Energy.{Energy}
+use Rattle.refusal.specs.Answers.{EnergyGiven, bad_energy_of, energy_of, taken_of}
 use Rattle.material.specs.Material.{is_finite_of, lame_of, computed, is_bad_of, tested_of}
 use Rattle.material.specs.declared.LamePair.{LamePair}
 use Rattle.material.specs.declared.Stiffness.{Stiffness}
@@ -53,7 +52,7 @@ module _ (f : Format) (e v : Float) where
 
   -- of a kernel with a stiffness, whatever its numbers are on lambda and myu
   module _ (others right zero : Bool) (numbers : LamePair → Float × List Float × List Float) where
-    abbrev answer : Stiffness → Energy
+    abbrev answer : Stiffness → EnergyGiven
     answer stiffness =
         let (w, dw, ddw) = numbers (lame_of f stiffness) in
         energy_of f (kernel_number (tested_of f stiffness others right zero (bad_energy_of w dw ddw))) w dw ddw

@@ -8,48 +8,55 @@ use native.Mathlib.Nat.{zero-add}
 use native.Mathlib.Omega.{arith}
 use lib.ListN.{length, take, drop, length-append, length-drop, take-append-drop}
 use lib.Seq.{take_at, take-append_seam, length-take-le, drop-append_seam}
+use Rattle.std.specs.Prelude.{Result, Ok, Err}
 use Rattle.refusal.specs.Refusal.{accepted, bad_file}
 use Rattle.mesh.specs.Items.{end}
-use Rattle.mesh.specs.Mesh.{mesh_of, number_of, values_of}
+use Rattle.mesh.specs.Mesh.{mesh, mesh_of, number_of, values_of}
 use Rattle.mesh.specs.Blocks.{points_in, cells_in}
 use Rattle.mesh.specs.Writer.{Content, Valid, fit_in, before_points, points_block, before_cells, cells_block, before_types, types_block, encode, Written}
-use Rattle.mesh.specs.declared.Step.TheVariants.{Bad}
 use Rattle.mesh.specs.declared.Mesh.{Mesh}
-use Rattle.mesh.specs.declared.Mesh.TheVariants.{Read, Refused}
-use Rattle.mesh.proofs.After.{after_next, after_bad, never_read}
+use Rattle.mesh.proofs.Item.{never, err_at}
+use Rattle.mesh.proofs.After.{after_next, after_bad}
 use Rattle.mesh.proofs.Sequence.{passes}
 use Rattle.mesh.proofs.ReaderParts.{File, points_from_lem, head_part, cells_part, types_part, fives_part, file_from, file_part}
 use Rattle.mesh.proofs.ReaderSteps.{steps, read_on, end_at, refused_at}
 use Rattle.mesh.proofs.ContentText.{from_points, from_cells, from_types, points_size, cells_size, types_size, file_right, file_steps, from_right}
 
-pub written_is_read : (c : Content) → Valid c → mesh_of (encode c) ≡ Read c.n c.m (length (before_points c)) (length (before_cells c)) (length (before_types c))
-written_is_read c valid = read_on (encode c) _ _ _ _ _ (file_steps c valid)
+-- what the reader answers to the file of c
+abbrev pub mesh_in : Content → Mesh
+mesh_in c = mesh c.n c.m (length (before_points c)) (length (before_cells c)) (length (before_types c))
+
+pub written_is_read : (c : Content) → Valid c → mesh_of (encode c) ≡ Ok (mesh_in c)
+written_is_read c valid = read_on (encode c) (mesh_in c) (file_steps c valid)
 
 joined : (f a b c d x y z rest : List ℕ) → f ≡ a ++ x → x ≡ b ++ y → y ≡ c ++ z → z ≡ d ++ rest → rest ≡ [] → f ≡ a ++ (b ++ (c ++ d))
 joined f a b c d x y z rest e1 e2 e3 e4 none = rw (e1, e2, e3, e4, none, append-nil)
 
-same_counts : (f : List ℕ) (c : Content) → Valid c → f ≡ encode c → (n m points cells types : ℕ) → mesh_of f ≡ Read n m points cells types → Written f n m points cells types
-same_counts f c valid written n m points cells types e =
+same_counts : (f : List ℕ) (c : Content) → Valid c → f ≡ encode c → (r : Mesh) → mesh_of f ≡ Ok r → Written f r
+same_counts f c valid written r e =
     let read = sym (written_is_read c valid) ∙ rw written at e in
-    (c, valid, written, cc, cc, cc, cc, cc)
+    let is : mesh_in c ≡ r = cc in
+    (c, valid, written, ap (λ (a : Mesh). a.n) is, ap (λ (a : Mesh). a.m) is, ap (λ (a : Mesh). a.points) is, ap (λ (a : Mesh). a.cells) is, ap (λ (a : Mesh). a.types) is)
 
-pub read_is_written : (f : List ℕ) → fit_in 1 f ≡ true → (n m points cells types : ℕ) → mesh_of f ≡ Read n m points cells types → Written f n m points cells types
-read_is_written f bytes n m points cells types e =
-    let s = steps f n m points cells types e in
-    let (w0, head, d0, _) = (head_part f).taken 0 n points (sym (points_from_lem f) ∙ s.to_points) in
-    let (w1, block1, d1, _) = (cells_part f n).taken points m cells s.to_cells in
-    let (w2, block2, d2, _) = (types_part f n m).taken cells s.v types s.to_types in
-    let (w3, block3, d3, _) = (fives_part f m).taken types s.x s.last s.to_last in
+pub read_is_written : (f : List ℕ) → fit_in 1 f ≡ true → (mesh : Mesh) → mesh_of f ≡ Ok mesh → Written f mesh
+read_is_written f bytes mesh e =
+    let s = steps f mesh e in
+    let (w0, head, d0, _) = (head_part f).taken 0 mesh.n mesh.points (sym (points_from_lem f) ∙ s.to_points) in
+    let (w1, block1, d1, _) = (cells_part f mesh.n).taken mesh.points mesh.m mesh.cells s.to_cells in
+    let (w2, block2, d2, _) = (types_part f mesh.n mesh.m).taken mesh.cells s.v mesh.types s.to_types in
+    let (w3, block3, d3, _) = (fives_part f mesh.m).taken mesh.types s.x s.last s.to_last in
     let text = joined f w0 w1 w2 w3 _ _ _ _ d0 d1 d2 d3 s.no_more in
-    let (c, valid, same) = from_right n m s.v s.x w0 w1 w2 w3 (rw text at bytes) head block1 block2 block3 in
-    same_counts f c valid (text ∙ same) n m points cells types e
+    let (c, valid, same) = from_right mesh.n mesh.m s.v s.x w0 w1 w2 w3 (rw text at bytes) head block1 block2 block3 in
+    same_counts f c valid (text ∙ same) mesh e
 
 -- THE theorem of the reader
-pub accepted_exactly : (f : List ℕ) → fit_in 1 f ≡ true → (n m points cells types : ℕ) → mesh_of f ≡ Read n m points cells types ↔ Written f n m points cells types
-accepted_exactly f bytes n m points cells types = (read_is_written f bytes n m points cells types, back)
+pub accepted_exactly : (f : List ℕ) → fit_in 1 f ≡ true → (mesh : Mesh) → mesh_of f ≡ Ok mesh ↔ Written f mesh
+accepted_exactly f bytes mesh = (read_is_written f bytes mesh, back)
   where
-    back : Written f n m points cells types → mesh_of f ≡ Read n m points cells types
-    back (c, valid, written, e1, e2, e3, e4, e5) = cc (written_is_read c valid)
+    back : Written f mesh → mesh_of f ≡ Ok mesh
+    back (c, valid, written, e1, e2, e3, e4, e5) =
+        let is : mesh_in c ≡ mesh = λ i. record { n = e1 i; m = e2 i; points = e3 i; cells = e4 i; types = e5 i } in
+        rw (written, ← is) (written_is_read c valid)
 
 -- by number: 0, with the counts for values, exactly where a valid content was written out, and 8 exactly where none was
 pub written_number : (c : Content) → Valid c → (number_of (mesh_of (encode c)) ≡ accepted) × (values_of (mesh_of (encode c)) ≡ c.n ∷ c.m ∷ [])
@@ -61,35 +68,36 @@ refused_8_exactly f bytes = (there, back)
     there : number_of (mesh_of f) ≡ bad_file → (c : Content) → Valid c → f ≡ encode c → ⊥
     there e c valid written = omega (arith, rw (written, written_is_read c valid) at e)
 
-    by : (a : Mesh) → mesh_of f ≡ a → ((c : Content) → Valid c → f ≡ encode c → ⊥) → number_of a ≡ bad_file
-    by (Read n m points cells types) e none = let (c, valid, written, _, _, _, _, _) = read_is_written f bytes n m points cells types e in absurd (none c valid written)
-    by (Refused place) e none = refl
+    by : (a : Result Mesh ℕ) → mesh_of f ≡ a → ((c : Content) → Valid c → f ≡ encode c → ⊥) → number_of a ≡ bad_file
+    by (Ok mesh) e none = let (c, valid, written, _, _, _, _, _) = read_is_written f bytes mesh e in absurd (none c valid written)
+    by (Err place) e none = refl
 
     back : ((c : Content) → Valid c → f ≡ encode c → ⊥) → number_of (mesh_of f) ≡ bad_file
     back none = by (mesh_of f) refl none
 
 -- every beginning of a right file is refused at its own length
-pub cut_short : (c : Content) → Valid c → (k : ℕ) → k < length (encode c) → mesh_of (take k (encode c)) ≡ Refused k
+pub cut_short : (c : Content) → Valid c → (k : ℕ) → k < length (encode c) → mesh_of (take k (encode c)) ≡ Err k
 cut_short c valid k h =
     let f = take k (encode c) in
     let rest = drop k (encode c) in
     let place : 0 + length f ≡ k = zero-add (length f) ∙ length-take-le k (encode c) (omega arith) in
     let more : 0 < length rest = rw length-drop (omega arith) in
     let right : File 0 (f ++ rest) = rw (take-append-drop k (encode c)) (file_right c valid) in
-    refused_at f k (after_bad (file_from f 0) (end_at f) k ((file_part f).cut 0 0 f rest right more refl ∙ ap Bad place))
+    refused_at f k (after_bad (file_from f 0) (end_at f) k ((file_part f).cut 0 0 f rest right more refl ∙ err_at place))
 
 -- so a file that is refused at one of its bytes is no beginning of a right file
-pub no_right_file_begins_so : (f : List ℕ) (place : ℕ) → mesh_of f ≡ Refused place → place < length f
+pub no_right_file_begins_so : (f : List ℕ) (place : ℕ) → mesh_of f ≡ Err place → place < length f
     → (c : Content) → Valid c → (rest : List ℕ) → encode c ≡ f ++ rest → ⊥
-no_right_file_begins_so f place e h c valid [] g = never_read (sym e ∙ rw (g ∙ append-nil f) at (written_is_read c valid))
+no_right_file_begins_so f place e h c valid [] g = never (sym e ∙ rw (g ∙ append-nil f) at (written_is_read c valid))
 no_right_file_begins_so f place e h c valid (b ∷ rest) g =
     let more : length f < length (encode c) = rw (g, length-append) (omega arith) in
-    let cut : mesh_of f ≡ Refused (length f) = rw (g, take-append_seam f (b ∷ rest)) at (cut_short c valid (length f) more) in
+    let cut : mesh_of f ≡ Err (length f) = rw (g, take-append_seam f (b ∷ rest)) at (cut_short c valid (length f) more) in
+    let refused : ◌≡◌ {A = Result Mesh ℕ} (Err place) (Err (length f)) = sym e ∙ cut in
     let same : place ≡ length f = cc in
     omega arith
 
 -- a right file that goes on is refused at the first byte too many
-pub too_long : (c : Content) → Valid c → (b : ℕ) (rest : List ℕ) → mesh_of (encode c ++ b ∷ rest) ≡ Refused (length (encode c))
+pub too_long : (c : Content) → Valid c → (b : ℕ) (rest : List ℕ) → mesh_of (encode c ++ b ∷ rest) ≡ Err (length (encode c))
 unfolding end
 too_long c valid b rest =
     let f = encode c ++ b ∷ rest in

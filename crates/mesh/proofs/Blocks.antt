@@ -13,19 +13,19 @@ use borrow.Author.Tests.{leb-true, leb-false, le-leb, lt-leb}
 use Rattle.float.proofs.Scan.{both}
 use Rattle.mesh.specs.Items.{block, right, numbers}
 use Rattle.mesh.specs.Rules.{number_at, OneOfBlock}
-use Rattle.mesh.specs.declared.Step.TheVariants.{Next, Bad}
+use Rattle.std.specs.Prelude.{Ok, Err}
 use Rattle.mesh.specs.declared.Rule.{Rule}
-use Rattle.mesh.proofs.Item.{never, Texts, EndsAt, Whole, Cut, Taken, Item}
+use Rattle.mesh.proofs.Item.{never, ok_is, Texts, EndsAt, Whole, Cut, Taken, Item}
 use Rattle.mesh.proofs.Bytes.{number_stays, decode, decode_length, decode_at}
 use Rattle.mesh.proofs.BlockRule.{one_of, block_rule}
 
 -- k bytes
 module _ (k at : ℕ) (s : List ℕ) where
-  pub block_there : k ≤ length s → block k at s ≡ Next 0 (at + k)
+  pub block_there : k ≤ length s → block k at s ≡ Ok (0, at + k)
   unfolding block
   block_there h = rw (le-leb _ _ h)
 
-  pub block_ended : length s < k → block k at s ≡ Bad (at + length s)
+  pub block_ended : length s < k → block k at s ≡ Err (at + length s)
   unfolding block
   block_ended h = rw (lt-leb _ _ h)
 
@@ -47,7 +47,8 @@ module _ (k : ℕ) where
           let fits = leb-true _ _ t in
           let l = length-take-le k s fits in
           let next = sym (block_there k at s fits) ∙ e in
-          (take k s, drop k s, (cc, l), sym (take-append-drop k s), rw l (cc))
+          let (none, place) = ok_is next in
+          (take k s, drop k s, (sym none, l), sym (take-append-drop k s), rw l (sym place))
       by false t = never (sym (block_ended k at s (leb-false _ _ t)) ∙ e)
 
   pub block_item : Item (RightBlock k) (block k)
@@ -100,7 +101,7 @@ module _ (rule : Rule) where
     numbers_cut : Cut (RightNumbers rule w k) (numbers rule w k 0)
     numbers_cut at v t rest (z, (l, r)) more = by (one_of rule w t k)
       where
-        by : OneOfBlock rule w t k → numbers rule w k 0 at t ≡ Bad (at + length t)
+        by : OneOfBlock rule w t k → numbers rule w k 0 at t ≡ Err (at + length t)
         by (inl (enough, _)) = absurd (omega (arith, length-append t rest))
         by (inr (inl (j, h, (_, there, wrong)))) = absurd (true≢false (sym ((are_right (t ++ rest)).0 r j h) ∙ rw (number_stays w j t rest there) wrong))
         by (inr (inr (j, h, ends))) = (block_rule rule w k at t).cut_short j h ends
@@ -115,7 +116,8 @@ module _ (rule : Rule) where
             let rest = drop (w * k) s in
             let l : length t ≡ w * k = length-take-le (w * k) s enough in
             let same : t ++ rest ≡ s = take-append-drop (w * k) s in
-            (t, rest, (cc, (l, (are_right t).1 (λ i h. rw (← same_number t rest l i h, same) (rights i h)))), sym same, rw l (cc))
+            let (none, place) = ok_is next in
+            (t, rest, (sym none, (l, (are_right t).1 (λ i h. rw (← same_number t rest l i h, same) (rights i h)))), sym same, rw l (sym place))
         by (inr (inl (j, h, is))) = never (sym ((block_rule rule w k at s).wrong j h is) ∙ e)
         by (inr (inr (j, h, is))) = never (sym ((block_rule rule w k at s).cut_short j h is) ∙ e)
 

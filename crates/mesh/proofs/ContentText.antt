@@ -9,6 +9,7 @@ use lib.ListN.{length, replicate, length-replicate}
 use lib.Seq.{drop-length}
 use Rattle.float.proofs.Scan.{every_parts}
 use Rattle.mesh.specs.Text.{newline, version_line, binary_line, dataset_line, points_line, cells_line, types_line}
+use Rattle.mesh.specs.Mesh.{mesh}
 use Rattle.mesh.specs.Writer.{Content, Valid, fit_in, spell, cell_numbers, before_points, points_block, before_cells, cells_block, before_types, types_block, encode}
 use Rattle.mesh.proofs.Bytes.{decode, decode_length, decode_fits, decode_block, spell_length, spell_block}
 use Rattle.mesh.proofs.CellsAndTypes.{cells_exactly, cell_numbers_length, cells_fit, types_exactly, types_fit}
@@ -97,7 +98,7 @@ module _ (c : Content) where
       from_points,
     )
 
-    pub file_steps : Steps (encode c) c.n c.m (length (before_points c)) (length (before_cells c)) (length (before_types c))
+    pub file_steps : Steps (encode c) (mesh c.n c.m (length (before_points c)) (length (before_cells c)) (length (before_types c)))
     file_steps =
         let f = encode c in
         record {

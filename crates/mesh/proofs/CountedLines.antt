@@ -11,12 +11,11 @@ use lib.ListN.{length, drop, length-append, drop_of_length-le}
 use lib.Seq.{drop-nil, drop-append_seam}
 use borrow.Author.Tests.{leb-true, leb-false, le-leb}
 use Rattle.float.specs.Text.{ascii}
+use Rattle.std.specs.Prelude.{Err}
 use Rattle.refusal.specs.Panel.{max_vertices, max_triangles}
 use Rattle.mesh.specs.Text.{newline, count, points_line, cells_line}
-use Rattle.mesh.specs.Items.{line, digits, counted_as, counted}
+use Rattle.mesh.specs.Items.{Step, line, digits, counted_as, counted}
 use Rattle.mesh.specs.Rules.{RightLine, RightPoints, RightCells, LineRule}
-use Rattle.mesh.specs.declared.Step.{Step}
-use Rattle.mesh.specs.declared.Step.TheVariants.{Bad}
 use Rattle.mesh.proofs.Item.{Texts, Whole, Cut, Item}
 use Rattle.mesh.proofs.Cuts.{Cuts, cuts}
 use Rattle.mesh.proofs.Counts.{digits_low, read_back, Begun, count_begun}
@@ -94,7 +93,7 @@ module _ (text : ℕ → List ℕ) (word : List ℕ) (tail : ℕ → List ℕ) (
     unfolding counted_as
     as_says at s k some = by (leb k limit) refl (line_says k (text k) at s)
       where
-        by : (t : Bool) → leb k limit ≡ t → Says (RightLine k (text k)) at at s (line k (text k) at s) → Says Counted at at s (cond t (line k (text k) at s) (Bad at))
+        by : (t : Bool) → leb k limit ≡ t → Says (RightLine k (text k)) at at s (line k (text k) at s) → Says Counted at at s (cond t (line k (text k) at s) (Err at))
         by true e (takes v w rest (ev, ew) g n) = takes v w rest (omega (arith, leb-true k limit e), ew ∙ ap text (sym ev)) g n
         by true e (wants v more (ev, ew) h n) = wants v more (omega (arith, leb-true k limit e), ew ∙ ap text (sym ev)) h n
         by true e (refuses h n) = refuses h n

@@ -7,8 +7,10 @@ use Prim.Native.Nat.{ℕ, zero, suc, ◌+◌, ◌-◌, ◌*◌, ◌/◌, ◌%◌
 use native.Mathlib.Nat.{div-div-eq-div-mul}
 use native.Mathlib.Omega.{arith}
 use lib.Dec.{leb, ltb}
-use lib.ListN.{length, length-append}
+use lib.ListN.{length}
 use borrow.Author.Tests.{ltb-true, ltb-false, lt-ltb, le-ltb, le-leb, lt-leb}
+use Rattle.std.specs.Fmt.{decimal}
+use Rattle.std.proofs.lemmas.Fmt.{decimal_digit, decimal_step}
 use Rattle.mesh.specs.Text.{digit, count}
 use Rattle.mesh.specs.Items.{digits}
 use Rattle.mesh.proofs.Cuts.{Cuts, cuts, cut_one}
@@ -48,19 +50,6 @@ no_digit n unit h = rw (lt-ltb n unit h)
 pub one_digit : (n unit : ℕ) → unit ≤ n → digit n unit ≡ (48 + n / unit % 10) ∷ []
 unfolding digit
 one_digit n unit h = rw (le-ltb n unit h)
-
-pub digit_length : (n unit : ℕ) → length (digit n unit) ≤ 1
-unfolding digit
-digit_length n unit = split (ltb n unit)
-  where
-    split : (b : Bool) → length (cond b [] ((48 + n / unit % 10) ∷ [])) ≤ 1
-    split true = omega arith
-    split false = omega arith
-
-pub count_length : (n : ℕ) → length (count n) ≤ 6
-unfolding count
-count_length n =
-    simp length-append (omega (arith, digit_length n 100000, digit_length n 10000, digit_length n 1000, digit_length n 100, digit_length n 10))
 
 -- but for its last, the digits of n are those of its tenth
 digit_tenth : (n unit : ℕ) → digit n (10 * unit) ≡ digit (n / 10) unit
@@ -113,6 +102,11 @@ read_back = by_tens ReadBack one more
     more n l h ih rest =
         let e : n / 10 * 10 + n % 10 ≡ n = omega arith in
         rw (count_more n l h, append_assoc, ih, digit_said (n / 10) (n % 10) rest (omega arith) (omega arith), e)
+
+-- so a count is what std prints
+pub count_decimal : (n : ℕ) → n < 1000000 → count n ≡ decimal n
+count_decimal =
+    by_tens (λ n. count n ≡ decimal n) (λ n h. count_one n h ∙ sym (decimal_digit n h)) (λ n l h ih. rw (count_more n l h, ih) (sym (decimal_step n l (omega arith))))
 
 -- w is a beginning of the count that it says, which is at most n
 abbrev pub Begun : (n : ℕ) (w : List ℕ) → Type 0

@@ -10,12 +10,13 @@ use lib.Ieee.{nan, binary64, of_bits}
 use lib.Ieee.Scale.{finite}
 use lib.ListN.{length, get_or}
 use Rattle.float.proofs.Bits.{nan_word_lem}
+use Rattle.std.specs.Prelude.{Ok}
 use Rattle.refusal.specs.Panel.{max_vertices}
 use Rattle.refusal.proofs.Panel.{named}
 use Rattle.mesh.specs.Mesh.{mesh_of}
 use Rattle.mesh.specs.Blocks.{cells_in, coordinate_of, name_of, no_name}
 use Rattle.mesh.specs.Writer.{Content, Valid, fit_in, cell_numbers, points_block, cells_block}
-use Rattle.mesh.specs.declared.Mesh.TheVariants.{Read}
+use Rattle.mesh.specs.declared.Mesh.{Mesh}
 use Rattle.mesh.proofs.Bytes.{spelled_at}
 use Rattle.mesh.proofs.CellsAndTypes.{names_past}
 use Rattle.mesh.proofs.ContentText.{points_size, cells_size, four_numbers, numbers_fit}
@@ -46,10 +47,10 @@ module _ (c : Content) (valid : Valid c) where
       ∙ names_past c.triangles triangle corner (omega (arith, valid.three_names)) k
 
 -- the names of an accepted file are names of its points
-pub names_below_lem : (f : List ℕ) → fit_in 1 f ≡ true → (n m points cells types : ℕ) → mesh_of f ≡ Read n m points cells types
-    → (triangle corner : ℕ) → triangle < m → corner < 3 → name_of (cells_in f (mesh_of f)) triangle corner < n
-names_below_lem f bytes n m points cells types e triangle corner h k =
-    let (c, valid, written, same_n, same_m, _, _, _) = read_is_written f bytes n m points cells types e in
+pub names_below_lem : (f : List ℕ) → fit_in 1 f ≡ true → (mesh : Mesh) → mesh_of f ≡ Ok mesh
+    → (triangle corner : ℕ) → triangle < mesh.m → corner < 3 → name_of (cells_in f (mesh_of f)) triangle corner < mesh.n
+names_below_lem f bytes mesh e triangle corner h k =
+    let (c, valid, written, same_n, same_m, _, _, _) = read_is_written f bytes mesh e in
     rw (written, cells_written c valid, name_written c valid triangle corner (omega arith) k)
     (omega (arith, named c.n c.triangles valid.named (3 * triangle + corner) (omega (arith, valid.three_names))))
 

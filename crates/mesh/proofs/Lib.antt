@@ -18,8 +18,8 @@ pub mod ContentText
 pub mod Accepted
 pub mod OneContent
 pub mod Scans
-pub mod MakingLines
+pub mod Pieces
 pub mod HandedBack
 pub mod Feeding
-pub mod Parts
+pub mod Found
 pub mod Unique

@@ -5,14 +5,15 @@ use Prim.Native.Nat.{ℕ, ◌+◌, ◌*◌, ◌/◌, ◌%◌, ◌<◌}
 use native.Mathlib.Omega.{arith}
 use lib.ListN.{length, get_or, take, drop, length-append}
 use lib.Seq.{ext_get_or, take-append_seam}
+use Rattle.std.specs.Prelude.{Result, Ok}
 use Rattle.mesh.specs.Text.{points_line}
 use Rattle.mesh.specs.Mesh.{mesh_of}
 use Rattle.mesh.specs.Blocks.{points_in, cells_in}
-use Rattle.mesh.specs.Writer.{Content, Valid, cell_numbers, before_points, points_block, before_cells, cells_block, before_types, encode}
-use Rattle.mesh.specs.declared.Mesh.TheVariants.{Read}
+use Rattle.mesh.specs.Writer.{Content, Valid, cell_numbers, before_points, points_block, cells_block, encode}
+use Rattle.mesh.specs.declared.Mesh.{Mesh}
 use Rattle.mesh.proofs.CellsAndTypes.{names_past}
 use Rattle.mesh.proofs.ContentText.{from_points, points_read, numbers_read}
-use Rattle.mesh.proofs.Accepted.{written_is_read, points_written, cells_written}
+use Rattle.mesh.proofs.Accepted.{mesh_in, written_is_read, points_written, cells_written}
 
 -- the names, from the numbers of the cells
 name_at : (m : ℕ) (t : List ℕ) (i : ℕ) → length t ≡ 3 * m → i < length t → get_or (cell_numbers t) (4 * (i / 3) + (1 + i % 3)) 0 ≡ get_or t i 0
@@ -33,19 +34,18 @@ module _ (c : Content) where
   title_there = rw (from_points c) (simp append_assoc (take-append_seam c.title _))
 
 module _ (c d : Content) (valid-c : Valid c) (valid-d : Valid d) (e : encode c ≡ encode d) where
-  same_answer : Read c.n c.m (length (before_points c)) (length (before_cells c)) (length (before_types c))
-      ≡ Read d.n d.m (length (before_points d)) (length (before_cells d)) (length (before_types d))
-  same_answer = sym (written_is_read c valid-c) ∙ ap mesh_of e ∙ written_is_read d valid-d
+  same_answer : mesh_in c ≡ mesh_in d
+  same_answer = let read : ◌≡◌ {A = Result Mesh ℕ} (Ok (mesh_in c)) (Ok (mesh_in d)) = sym (written_is_read c valid-c) ∙ ap mesh_of e ∙ written_is_read d valid-d in cc
 
   same_n : c.n ≡ d.n
-  same_n = cc same_answer
+  same_n = ap (λ (a : Mesh). a.n) same_answer
 
   same_m : c.m ≡ d.m
-  same_m = cc same_answer
+  same_m = ap (λ (a : Mesh). a.m) same_answer
 
   same_title : c.title ≡ d.title
   same_title =
-      let places : length (before_points c) ≡ length (before_points d) = cc same_answer in
+      let places : length (before_points c) ≡ length (before_points d) = ap (λ (a : Mesh). a.points) same_answer in
       let l : length c.title ≡ length d.title = omega (arith, title_length c, title_length d, ap (λ (n : ℕ). length (points_line n)) same_n) in
       sym (title_there c) ∙ rw (l, e) (title_there d)
 

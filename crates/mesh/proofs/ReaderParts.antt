@@ -11,7 +11,7 @@ use Rattle.mesh.specs.Text.{newline, version_line, binary_line, dataset_line, po
 use Rattle.mesh.specs.Items.{line, title, counted, numbers, after}
 use Rattle.mesh.specs.Rules.{RightLine, RightTitle, RightPoints, RightCells}
 use Rattle.mesh.specs.Mesh.{points_from, closed, cells_from, types_from}
-use Rattle.mesh.specs.declared.Step.{Step}
+use Rattle.mesh.specs.Items.{Step}
 use Rattle.mesh.specs.declared.Rule.TheVariants.{Cell, Five}
 use Rattle.mesh.proofs.Item.{Texts}
 use Rattle.mesh.proofs.Lines.{line_item, title_item}

@@ -1,35 +1,39 @@
--- What the code of each item finds at `here`, turn by turn: what is left from there on answers what the whole does, until the scan ends.
-use mathlib.Core.Path.{◌≡◌, sym, ◌∙◌, ap}
-use mathlib.Core.Bool.{true, false}
-use mathlib.Core.List.{List}
-use Prim.Native.Nat.{ℕ, suc, ◌+◌, ◌-◌, ◌*◌, ◌≤◌, ◌<◌}
+-- What the code of each item finds, turn by turn: what is left answers what the whole does, until the scan ends.
+use mathlib.Core.Path.{◌≡◌, refl, sym, ◌∙◌, ap}
+use mathlib.Core.Bool.{Bool, true, false, cond}
+use mathlib.Core.List.{List, [], ◌∷◌}
+use mathlib.Core.Logic.{inl, inr}
+use Prim.Native.Nat.{ℕ, zero, suc, ◌+◌, ◌-◌, ◌*◌, ◌≤◌, ◌<◌}
 use native.Mathlib.Numerals.{add-one}
 use native.Mathlib.Omega.{arith}
+use lib.Dec.{eqb, leb, leb-suc-suc}
 use lib.ListN.{length, get_or, drop, take, drop_of_length-le, length-drop}
-use lib.Seq.{drop-cons, drop-drop}
+use lib.Seq.{drop-cons, take_all}
 use borrow.Author.Tests.{eq-eqb, ne_eqb, le-leb, lt-leb}
+use Rattle.std.proofs.lemmas.Iterator.Adapters.{position_from-zero}
 use Rattle.float.specs.Numbers.{big_endian}
-use Rattle.mesh.specs.Items.{same, line, title_in, digits, counted, counted_as, block, right, numbers, end}
-use Rattle.mesh.specs.declared.Step.{Step}
-use Rattle.mesh.specs.declared.Step.TheVariants.{Next, Bad}
+use Rattle.std.specs.Prelude.{Option, Some, None, Ok, Err}
+use Rattle.std.specs.Char.{IsNotAsciiDigit}
+use Rattle.std.specs.List.{position, position_from}
+use Rattle.mesh.specs.Items.{Step, same, title_in, title, digits, right, numbers, end}
 use Rattle.mesh.specs.declared.Rule.{Rule}
+use Rattle.mesh.proofs.Item.{err_at}
 use Rattle.mesh.proofs.Counts.{digits_six as six, digits_low as low, digits_high as high, digits_more as more}
-use Rattle.mesh.proofs.Blocks.{block_there, block_ended}
 use Rattle.mesh.proofs.BlockRule.{number_passed, number_wrong, number_cut}
 
 module _ (f : List ℕ) (here : ℕ) where
   -- the bytes w, from place i of it on
   module _ (value start : ℕ) (w : List ℕ) (i : ℕ) where
-    pub same_done : length w ≤ i → same value start (drop i w) here (drop here f) ≡ Next value here
+    pub same_done : length w ≤ i → same value start (drop i w) here (drop here f) ≡ Ok (value, here)
     unfolding same
     same_done h = rw (drop_of_length-le w h)
 
     module _ (h : i < length w) where
-      pub same_ended : length f ≤ here → same value start (drop i w) here (drop here f) ≡ Bad here
+      pub same_ended : length f ≤ here → same value start (drop i w) here (drop here f) ≡ Err here
       unfolding same
       same_ended e = rw (drop-cons w i 0 h, drop_of_length-le f e)
 
-      pub same_wrong : here < length f → (get_or f here 0 ≡ get_or w i 0 → ⊥) → same value start (drop i w) here (drop here f) ≡ Bad start
+      pub same_wrong : here < length f → (get_or f here 0 ≡ get_or w i 0 → ⊥) → same value start (drop i w) here (drop here f) ≡ Err start
       unfolding same
       same_wrong e d = rw (drop-cons w i 0 h, drop-cons f here 0 e, ne_eqb _ _ d)
 
@@ -37,28 +41,6 @@ module _ (f : List ℕ) (here : ℕ) where
           → same value start (drop (i + 1) w) (here + 1) (drop (here + 1) f) ≡ same value start (drop i w) here (drop here f)
       unfolding same
       same_more e d = rw (drop-cons w i 0 h, drop-cons f here 0 e, eq-eqb _ _ d, add-one i, add-one here)
-
-  -- a newline, with `left` bytes to look for it
-  module _ (start left : ℕ) where
-    pub title_spent : left ≤ 0 → title_in start left here (drop here f) ≡ Bad start
-    unfolding title_in
-    title_spent h = let e : left ≡ 0 = omega arith in rw e
-
-    module _ (h : 0 < left) where
-      one : left ≡ suc (left - 1)
-      one = omega arith
-
-      pub title_ended : length f ≤ here → title_in start left here (drop here f) ≡ Bad here
-      unfolding title_in
-      title_ended e = rw (one, drop_of_length-le f e)
-
-      pub title_found : here < length f → get_or f here 0 ≡ 10 → title_in start left here (drop here f) ≡ Next 0 (here + 1)
-      unfolding title_in
-      title_found e d = rw (one, drop-cons f here 0 e, eq-eqb _ _ d)
-
-      pub title_more : here < length f → (get_or f here 0 ≡ 10 → ⊥) → title_in start (left - 1) (here + 1) (drop (here + 1) f) ≡ title_in start left here (drop here f)
-      unfolding title_in
-      title_more e d = sym (ap (λ (k : ℕ). title_in start k here (drop here f)) one ∙ rw (drop-cons f here 0 e, ne_eqb _ _ d, ← add-one here))
 
   -- digits, after n
   module _ (n : ℕ) where
@@ -73,60 +55,76 @@ module _ (f : List ℕ) (here : ℕ) where
       pub digits_six : 100000 ≤ n → digits n (drop here f) ≡ n
       digits_six h = rw (drop-cons f here 0 e) (six n c _ h)
 
-      pub digits_low : c < 48 → digits n (drop here f) ≡ n
-      digits_low h = rw (drop-cons f here 0 e) (low n c _ h)
-
-      pub digits_high : 57 < c → digits n (drop here f) ≡ n
-      digits_high h = rw (drop-cons f here 0 e) (high n c _ h)
+      pub digits_other : IsNotAsciiDigit c → digits n (drop here f) ≡ n
+      digits_other (inl h) = rw (drop-cons f here 0 e) (low n c _ (omega arith))
+      digits_other (inr h) = rw (drop-cons f here 0 e) (high n c _ (omega arith))
 
       pub digits_more : n < 100000 → 48 ≤ c → c ≤ 57 → digits (n * 10 + (c - 48)) (drop (here + 1) f) ≡ digits n (drop here f)
       digits_more h l g = rw (drop-cons f here 0 e, add-one here) (sym (more n c _ h l (omega arith)))
 
-  to_the_end : here ≤ length f → here + length (drop here f) ≡ length f
-  to_the_end h = rw length-drop (omega arith)
+-- numbers of four bytes, from number i on, of k in all; s is what is left
+module _ (rule : Rule) (k i at : ℕ) (s : List ℕ) where
+  pub numbers_done : k ≤ i → numbers rule 4 (k - i) i at s ≡ Ok (0, at)
+  unfolding numbers
+  numbers_done h = let e : k - i ≡ 0 = omega arith in rw e
 
-  pub block_whole : (k : ℕ) → k ≤ length f - here → block k here (drop here f) ≡ Next 0 (here + k)
-  block_whole k h = block_there k here (drop here f) (rw length-drop h)
+  module _ (h : i < k) where
+    next : k - i ≡ suc (k - (i + 1))
+    next = omega arith
 
-  pub block_short : (k : ℕ) → here ≤ length f → length f - here < k → block k here (drop here f) ≡ Bad (length f)
-  block_short k g h = block_ended k here (drop here f) (rw length-drop h) ∙ ap Bad (to_the_end g)
+    pub numbers_ended : length s < 4 → numbers rule 4 (k - i) i at s ≡ Err (at + length s)
+    numbers_ended e = rw next (number_cut rule 4 _ i at s e)
 
-  -- numbers of w bytes, from number i on, of k in all
-  module _ (rule : Rule) (w k i : ℕ) where
-    pub numbers_done : k ≤ i → numbers rule w (k - i) i here (drop here f) ≡ Next 0 here
-    unfolding numbers
-    numbers_done h = let e : k - i ≡ 0 = omega arith in rw e
+    module _ (e : 4 ≤ length s) where
+      pub numbers_wrong : right rule i (big_endian (take 4 s)) ≡ false → numbers rule 4 (k - i) i at s ≡ Err at
+      numbers_wrong d = rw next (number_wrong rule 4 _ i at s e d)
 
-    module _ (h : i < k) where
-      next : k - i ≡ suc (k - (i + 1))
-      next = omega arith
+      pub numbers_more : right rule i (big_endian (take 4 s)) ≡ true → numbers rule 4 (k - i) i at s ≡ numbers rule 4 (k - (i + 1)) (i + 1) (at + 4) (drop 4 s)
+      numbers_more d = rw next (number_passed rule 4 _ i at s e d)
 
-      pub numbers_ended : here ≤ length f → length f - here < w → numbers rule w (k - i) i here (drop here f) ≡ Bad (length f)
-      numbers_ended g e = rw next (number_cut rule w _ i here (drop here f) (rw length-drop e) ∙ ap Bad (to_the_end g))
+pub end_more : (f : List ℕ) (at : ℕ) → at < length f → end at (drop at f) ≡ Err at
+unfolding end
+end_more f at h = rw (drop-cons f at 0 h)
 
-      module _ (e : w ≤ length f - here) where
-        pub numbers_wrong : right rule i (big_endian (take w (drop here f))) ≡ false → numbers rule w (k - i) i here (drop here f) ≡ Bad here
-        numbers_wrong d = rw next (number_wrong rule w _ i here (drop here f) (rw length-drop e) d)
+-- what is left of the file from a place on
+pub tail : (f : List ℕ) (at : ℕ) → take (length f - at) (drop at f) ≡ drop at f
+tail f at = take_all _ _ (rw length-drop (omega arith))
 
-        pub numbers_more : right rule i (big_endian (take w (drop here f))) ≡ true
-            → numbers rule w (k - (i + 1)) (i + 1) (here + w) (drop (here + w) f) ≡ numbers rule w (k - i) i here (drop here f)
-        numbers_more d =
-            sym (ap (λ (j : ℕ). numbers rule w j i here (drop here f)) next ∙ number_passed rule w _ i here (drop here f) (rw length-drop e) d ∙ rw (drop-drop w here f))
+-- the newline's place among the next k bytes, or that there is none; counted from j on
+abbrev title_at : (start k at j : ℕ) (s : List ℕ) → Option ℕ → Step
+title_at start k at j s (Some i) = Ok (0, at + i + 1)
+title_at start k at j s None = cond (leb k (length s)) (Err start) (Err (at + j + length s))
 
-  pub end_here : length f ≤ here → end here (drop here f) ≡ Next 0 here
-  unfolding end
-  end_here h = rw (drop_of_length-le f h)
+title_from : (start k at j : ℕ) (s : List ℕ) → title_in start k (at + j) s ≡ title_at start k at j s (position_from (λ c. eqb c 10) j (take k s))
+unfolding title_in
+title_from start zero at j s = rw (le-leb 0 (length s) (omega arith))
+title_from start (suc k) at j [] = rw (lt-leb (suc k) 0 (omega arith)) (err_at (omega arith))
+title_from start (suc k) at j (c ∷ s) = by (rw next (title_from start k at (j + 1) s ∙ past (position_from (λ c. eqb c 10) (j + 1) (take k s)))) (eqb c 10)
+  where
+    next : at + j + 1 ≡ at + (j + 1)
+    next = omega arith
 
-  pub end_more : here < length f → end here (drop here f) ≡ Bad here
-  unfolding end
-  end_more h = rw (drop-cons f here 0 h)
+    past : (o : Option ℕ) → title_at start k at (j + 1) s o ≡ title_at start (suc k) at j (c ∷ s) o
+    past (Some i) = refl
+    past None = rw leb-suc-suc (ap (cond (leb k (length s)) (Err start)) (err_at (omega arith)))
 
--- a line with a count, of which the digits say n
-module _ (f : List ℕ) (at : ℕ) (text : ℕ → List ℕ) (word limit n : ℕ) (e : n ≡ digits 0 (drop (at + word) f)) where
-  pub counted_over : limit < n → Bad at ≡ counted text word limit at (drop at f)
-  unfolding counted counted_as
-  counted_over h = rw (drop-drop word at f, ← e, lt-leb _ _ h)
+    by : title_in start k (at + j + 1) s ≡ title_at start (suc k) at j (c ∷ s) (position_from (λ c. eqb c 10) (j + 1) (take k s))
+        → (t : Bool) → cond t (Ok (0, at + j + 1)) (title_in start k (at + j + 1) s) ≡ title_at start (suc k) at j (c ∷ s) (cond t (Some j) (position_from (λ c. eqb c 10) (j + 1) (take k s)))
+    by ih true = refl
+    by ih false = ih
 
-  pub counted_line : (r : Step) (w : List ℕ) → n ≤ limit → r ≡ line n w at (drop at f) → w ≡ text n → r ≡ counted text word limit at (drop at f)
-  unfolding counted counted_as
-  counted_line r w h g s = rw (drop-drop word at f, ← e, le-leb _ _ h, g, s)
+module _ (at : ℕ) (s : List ℕ) where
+  by_position : {o : Option ℕ} → position (λ c. eqb c 10) (take 256 s) ≡ o → title at s ≡ title_at at 256 at 0 s o
+  by_position e =
+      let place : at + 0 ≡ at = omega arith in
+      rw place at (title_from at 256 at 0 s) ∙ rw (← position_from-zero (λ c. eqb c 10) (take 256 s), e)
+
+  pub title_found : (i : ℕ) → position (λ c. eqb c 10) (take 256 s) ≡ Some i → title at s ≡ Ok (0, at + i + 1)
+  title_found i e = by_position e
+
+  module _ (e : position (λ c. eqb c 10) (take 256 s) ≡ None) where
+    pub title_ended : length s < 256 → title at s ≡ Err (at + length s)
+    title_ended h = by_position e ∙ rw (lt-leb _ _ h) (err_at (omega arith))
+
+    pub title_none : 256 ≤ length s → title at s ≡ Err at
+    title_none h = by_position e ∙ rw (le-leb _ _ h)

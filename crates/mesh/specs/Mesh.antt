@@ -1,19 +1,14 @@
 -- What the reader answers for every string of bytes f (01-scope 5.9, 2.6): the items in file order, up to the first that is refused.
-use Rattle.std.specs.Prelude.{◌≡◌, List, [], ◌∷◌, ℕ, ◌*◌, drop}
+use Rattle.std.specs.Prelude.{◌≡◌, Result, Ok, Err, List, [], ◌∷◌, ℕ, ◌*◌, drop}
 use Rattle.refusal.specs.Refusal.{accepted, bad_file}
 use Rattle.refusal.specs.Panel.{max_vertices, max_triangles}
 use Rattle.mesh.specs.Text.{newline, version_line, binary_line, dataset_line, points_line, cells_line, types_line}
-use Rattle.mesh.specs.Items.{line, title, counted, block, numbers, end, after}
-use Rattle.mesh.specs.declared.Step.{Step}
-use Rattle.mesh.specs.declared.Step.TheVariants.{Next, Bad}
+use Rattle.mesh.specs.Items.{Step, line, title, counted, block, numbers, end, after}
 use Rattle.mesh.specs.declared.Rule.TheVariants.{Cell, Five}
 use Rattle.mesh.specs.declared.Mesh.{Mesh}
-use Rattle.mesh.specs.declared.Mesh.TheVariants.{Read, Refused}
 
--- what is answered after a part of the file, given its value and the place after it
-unfoldable pub answer : Step → (ℕ → ℕ → Mesh) → Mesh
-answer (Next value at) more = more value at
-answer (Bad place) more = Refused place
+abbrev pub mesh : (n m points cells types : ℕ) → Mesh
+mesh n m points cells types = record { n = n; m = m; points = points; cells = cells; types = types }
 
 module _ (f : List ℕ) where
   -- the four lines before `POINTS n double`, and that line: n, and where the points begin
@@ -38,20 +33,20 @@ module _ (f : List ℕ) where
   unfoldable pub end_from : (m at : ℕ) → Step
   end_from m at = after (closed (numbers Five 4 m 0 at (drop at f))) (λ _ a. end a (drop a f))
 
-  unfoldable pub mesh_of : Mesh
+  unfoldable pub mesh_of : Result Mesh ℕ
   mesh_of =
-      answer points_from (λ n points. answer (cells_from n points) (λ m cells. answer (types_from n m cells) (λ _ types. answer (end_from m types)
-      (λ _ _. Read n m points cells types))))
+      after points_from (λ n points. after (cells_from n points) (λ m cells. after (types_from n m cells) (λ _ types. after (end_from m types)
+      (λ _ _. Ok (mesh n m points cells types)))))
 
 -- 01-scope's number and values of an answer: 0, n and m; or 8 and the place
-abbrev pub number_of : Mesh → ℕ
-number_of (Read n m points cells types) = accepted
-number_of (Refused place) = bad_file
+abbrev pub number_of : Result Mesh ℕ → ℕ
+number_of (Ok mesh) = accepted
+number_of (Err place) = bad_file
 
-abbrev pub values_of : Mesh → List ℕ
-values_of (Read n m points cells types) = n ∷ m ∷ []
-values_of (Refused place) = place ∷ []
+abbrev pub values_of : Result Mesh ℕ → List ℕ
+values_of (Ok mesh) = mesh.n ∷ mesh.m ∷ []
+values_of (Err place) = place ∷ []
 
 -- THE statement of `read`
-abbrev pub IsMesh : (f : List ℕ) (r : Mesh) → Type 0
+abbrev pub IsMesh : (f : List ℕ) (r : Result Mesh ℕ) → Type 0
 IsMesh f r = r ≡ mesh_of f

@@ -1,13 +1,11 @@
 -- The rules for a mesh file's lines and for its blocks of numbers (01-scope 2.6), the same for all of them, whatever is right there.
-use Rattle.std.specs.Prelude.{◌≡◌, true, false, not, List, ◌++◌, ◌⊎◌, ℕ, ◌+◌, ◌*◌, ◌≤◌, ◌<◌, eqb, length, take, drop}
+use Rattle.std.specs.Prelude.{◌≡◌, true, false, not, Ok, Err, List, ◌++◌, ◌⊎◌, ℕ, ◌+◌, ◌*◌, ◌≤◌, ◌<◌, eqb, length, take, drop}
 use Rattle.float.specs.Lists.{every}
 use Rattle.float.specs.Numbers.{big_endian}
 use Rattle.refusal.specs.Panel.{max_vertices, max_triangles}
 use Rattle.mesh.specs.Text.{newline, points_line, cells_line}
-use Rattle.mesh.specs.Items.{right}
+use Rattle.mesh.specs.Items.{Step, right}
 use Rattle.mesh.specs.declared.Rule.{Rule}
-use Rattle.mesh.specs.declared.Step.{Step}
-use Rattle.mesh.specs.declared.Step.TheVariants.{Next, Bad}
 
 -- `Right v w`: the bytes w are a right line, newline and all, and v is its value. Of the line t:
 abbrev pub RightLine : (value : ℕ) (t : List ℕ) (v : ℕ) (w : List ℕ) → Type 0
@@ -43,11 +41,11 @@ module _ (Right : (v : ℕ) (w : List ℕ) → Type 0) (s : List ℕ) where
 
 -- what is answered for a line at the place `at`: one of three things, by one of three premises
 pub record LineRule (Right : (v : ℕ) (w : List ℕ) → Type 0) (at : ℕ) (s : List ℕ) (r : Step) : Type 0 where
-  pub right : (v : ℕ) (w rest : List ℕ) → Right v w → s ≡ w ++ rest → r ≡ Next v (at + length w)
+  pub right : (v : ℕ) (w rest : List ℕ) → Right v w → s ≡ w ++ rest → r ≡ Ok (v, at + length w)
   -- an early end: at the file's length
-  pub cut_short : (v : ℕ) (more : List ℕ) → Right v (s ++ more) → 0 < length more → r ≡ Bad (at + length s)
+  pub cut_short : (v : ℕ) (more : List ℕ) → Right v (s ++ more) → 0 < length more → r ≡ Err (at + length s)
   -- a wrong line: at its first byte
-  pub wrong : Wrong Right s → r ≡ Bad at
+  pub wrong : Wrong Right s → r ≡ Err at
   pub one_of : OneOf Right s
 
 -- number i of those that s begins with, w bytes each
@@ -73,9 +71,9 @@ module _ (rule : Rule) (w : ℕ) (s : List ℕ) where
 
 -- what is answered for k numbers at the place `at`: one of three things, by one of three premises
 pub record BlockRule (rule : Rule) (w k at : ℕ) (s : List ℕ) (r : Step) : Type 0 where
-  pub right : RightUpTo rule w s k → r ≡ Next 0 (at + w * k)
+  pub right : RightUpTo rule w s k → r ≡ Ok (0, at + w * k)
   -- a wrong number: at its first byte
-  pub wrong : (j : ℕ) → j < k → WrongAt rule w s j → r ≡ Bad (at + w * j)
+  pub wrong : (j : ℕ) → j < k → WrongAt rule w s j → r ≡ Err (at + w * j)
   -- an early end: at the file's length
-  pub cut_short : (j : ℕ) → j < k → EndsIn rule w s j → r ≡ Bad (at + length s)
+  pub cut_short : (j : ℕ) → j < k → EndsIn rule w s j → r ≡ Err (at + length s)
   pub one_of : OneOfBlock rule w s k

@@ -1,7 +1,6 @@
 -- The lines of a mesh file (01-scope 5.9), as bytes.
-use Rattle.std.specs.Prelude.{◌≡◌, cond, List, [], ◌∷◌, ◌++◌, ℕ, ◌+◌, ◌*◌, ◌/◌, ◌%◌, ltb, length, take}
+use Rattle.std.specs.Prelude.{cond, List, [], ◌∷◌, ◌++◌, ℕ, ◌+◌, ◌*◌, ◌/◌, ◌%◌, ltb}
 use Rattle.float.specs.Text.{ascii}
-use Rattle.mesh.specs.declared.Line.{Line}
 
 abbrev pub newline : List ℕ
 newline = ascii "\n"
@@ -14,21 +13,6 @@ binary_line = ascii "BINARY\n"
 
 abbrev pub dataset_line : List ℕ
 dataset_line = ascii "DATASET UNSTRUCTURED_GRID\n"
-
--- a line in the making: its bytes so far
-abbrev pub text_of : Line → List ℕ
-text_of l = take l.len l.bytes
-
-pub record IsLine (text : List ℕ) (r : Line) : Type 0 where
-  pub says : text_of r ≡ text
-  pub long : r.len ≡ length text
-  pub room : length r.bytes ≡ 32
-
--- the line r is `line` with the bytes w more
-pub record Adds (w : List ℕ) (line r : Line) : Type 0 where
-  pub says : text_of r ≡ text_of line ++ w
-  pub long : r.len ≡ line.len + length w
-  pub room : length r.bytes ≡ length line.bytes
 
 -- the digit of n that counts units of this size, where n has one
 unfoldable pub digit : (n unit : ℕ) → List ℕ

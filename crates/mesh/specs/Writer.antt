@@ -3,6 +3,7 @@ use Rattle.std.specs.Prelude.{◌≡◌, Bool, true, not, List, [], ◌∷◌, �
 use Rattle.float.specs.Lists.{every}
 use Rattle.refusal.specs.Panel.{max_vertices, max_triangles, names_below}
 use Rattle.mesh.specs.Text.{newline, version_line, binary_line, dataset_line, points_line, cells_line, types_line}
+use Rattle.mesh.specs.declared.Mesh.{Mesh}
 
 -- what a file says: a title; n points, three coordinates each, as patterns of 64 bits; m triangles, three names each
 pub record Content : Type 0 where
@@ -69,6 +70,7 @@ module _ (c : Content) where
   encode = before_types ++ types_block ++ newline
 
 -- f is a valid content written out, with these counts and its blocks at these places
-abbrev pub Written : (f : List ℕ) (n m points cells types : ℕ) → Type 0
-Written f n m points cells types =
-    (c : Content) × Valid c × (f ≡ encode c) × (c.n ≡ n) × (c.m ≡ m) × (length (before_points c) ≡ points) × (length (before_cells c) ≡ cells) × (length (before_types c) ≡ types)
+abbrev pub Written : (f : List ℕ) (mesh : Mesh) → Type 0
+Written f mesh =
+    (c : Content) × Valid c × (f ≡ encode c) × (c.n ≡ mesh.n) × (c.m ≡ mesh.m)
+    × (length (before_points c) ≡ mesh.points) × (length (before_cells c) ≡ mesh.cells) × (length (before_types c) ≡ mesh.types)

@@ -2,69 +2,51 @@
 // 65,536 bytes.
 #![tactic(auto)]
 
-ghost use Rattle.std.specs.Prelude.{◌≤◌};
+ghost use Rattle.std.specs.Prelude.{Some};
 ghost use Rattle.std.specs.Io.{ReadsAtMost};
-ghost use Rattle.mesh_count.specs.Printed.{IsPrinted};
+ghost use Rattle.mesh_count.specs.Printed.{line_of, IsPrinted};
 
-use mesh::Mesh;
-use refusal::{ACCEPTED, BAD_FILE, BAD_LENGTH};
-use std::io;
+use refusal::{ACCEPTED, Refusal};
+use std::{fmt, io};
 
 const MAX_BYTES: usize = 65_536;
 
-#[derive(Drop)]
-struct Printed {
-    numbers: [u64; 3],
-    len: usize,
+#[derive(Clone, Copy, Debug, PartialEq, Eq)]
+enum Printed {
+    TooLong,
+    Read { n: usize, m: usize },
+    Refused(usize),
 }
 
+impl fmt::Display for Printed {
+    ghost output = { λ printed. Some (line_of printed) };
+
+    fn fmt<W: fmt::Write>(&self, f: &mut fmt::Formatter<W>) -> fmt::Result {
+        match *self {
+            Printed::TooLong => write!(f, "{}", Refusal::BadLength.number()),
+            Printed::Read { n, m } => write!(f, "{ACCEPTED} {n} {m}"),
+            Printed::Refused(place) => write!(f, "{} {place}", Refusal::BadFile.number()),
+        }
+    }
+}
+
+#[tactic(auto, unfolding(crate::specs::Printed::numbers_of))]
 fn numbers(file: &[u8]) -> Printed
     ensures { IsPrinted file.now result }
 {
     if MAX_BYTES < file.len() {
-        return Printed {
-            numbers: [BAD_LENGTH as u64, 0, 0],
-            len: 1,
-        };
+        return Printed::TooLong;
     }
     match mesh::read(file) {
-        Mesh::Read {
-            n,
-            m,
-            points: _,
-            cells: _,
-            types: _,
-        } => Printed {
-            numbers: [ACCEPTED as u64, n as u64, m as u64],
-            len: 3,
+        Ok(mesh) => Printed::Read {
+            n: mesh.n,
+            m: mesh.m,
         },
-        Mesh::Refused(place) => Printed {
-            numbers: [BAD_FILE as u64, place as u64, 0],
-            len: 2,
-        },
+        Err(place) => Printed::Refused(place),
     }
 }
 
-// One space before every number but the first.
-fn print_number(rt: &impl Print, i: usize, x: u64) -> io::Result<()> {
-    if 0 < i {
-        print!(rt; " ")?;
-    }
-    print!(rt; "{x}")
-}
-
-fn print(rt: &impl Print, line: Printed) -> io::Result<()>
-    requires { line.len ≤ 3 }
-{
-    let numbers = line.numbers;
-    let len = line.len;
-    for i in 0..len {
-        print_number(rt, i, numbers[i])?;
-    }
-    Ok(())
-}
-
-// Reads until the bytes are full or the input ends, and answers how many were read.
+// Reads until the bytes are full or the input ends, and answers how many were read. What std has for that fills a `Vec`, or fails where the input ends early. It stands in each program that reads: no statement determines what a reader gives, and what is public needs one.
 fn read_full(stdin: &mut impl io::Read, bytes: &mut [u8]) -> io::Result<usize>
     ensures { ReadsAtMost result bytes.new }
 {
@@ -83,6 +65,5 @@ fn main(rt: HostRuntime) -> io::Result<()> {
     // One byte more than the longest file, so that a longer one is told from it.
     let mut file = [0u8; 65_537];
     let n = read_full(&mut rt.stdin(), &mut file)?;
-    print(&rt, numbers(&file[..n]))?;
-    println!(rt)
+    rt.println(numbers(&file[..n]))
 }

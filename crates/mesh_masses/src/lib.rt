@@ -1,27 +1,21 @@
 // The lumped masses of a panel whose points and cells are the blocks of a mesh file, read where they lie: no list of names or coordinates is made.
+// Points and cells are passed as the file gives them: a struct of both would be taken apart in each clause.
 #![tactic(auto)]
 
 ghost use Rattle.std.specs.Prelude.{◌≡◌, true, ◌*◌, length};
 ghost use Rattle.std.specs.Float.{binary64};
 ghost use Rattle.refusal.specs.Panel.{names_below};
-ghost use Rattle.places.specs.Plane.{vertices_of, point_at};
+ghost use Rattle.refusal.specs.Numbers.{answer_number};
+ghost use Rattle.places.specs.Plane.{vertices_of, point_at, corners_at};
 ghost use Rattle.masses.specs.Masses.{add_all};
 ghost use Rattle.mitc_tri3.specs.Masses.{IsMasses};
 ghost use Rattle.mesh_masses.specs.Blocks.{names_in, xy_in, triangle_of, seen_of};
 
-use corners::plane;
+use corners::IsFinite;
 use del_geo_core::tri2;
 use del_geo_core::tri2::{Tri2, V2};
 use material::Material;
-use refusal::{ACCEPTED, BAD_ANSWER, BAD_INPUT, BAD_LENGTH, BAD_NAME, TURNED};
-
-// The vertices that a triangle names.
-#[derive(Clone, Copy)]
-struct Triangle {
-    i0: usize,
-    i1: usize,
-    i2: usize,
-}
+use refusal::Refusal;
 
 // What holds of every triangle of a panel.
 #[derive(Clone, Copy)]
@@ -31,16 +25,19 @@ struct Seen {
     unturned: bool,
 }
 
-fn names(cells: &[u8], t: usize) -> Triangle
+// The vertices that a triangle names.
+fn names(cells: &[u8], t: usize) -> [usize; 3]
     ensures { result ≡ triangle_of cells.now t }
 {
-    Triangle {
-        i0: mesh::name(cells, t, 0),
-        i1: mesh::name(cells, t, 1),
-        i2: mesh::name(cells, t, 2),
-    }
+    [
+        mesh::name(cells, t, 0),
+        mesh::name(cells, t, 1),
+        mesh::name(cells, t, 2),
+    ]
 }
 
+// As `survey` reads a point: `mesh` knows no vectors, and of the two crates that do, neither stands on the other.
+#[tactic(auto, using(crate::proofs::Lists::point_there))]
 fn point(points: &[u8], i: usize) -> V2
     ensures { result ≡ point_at (xy_in points.now) i }
 {
@@ -50,7 +47,18 @@ fn point(points: &[u8], i: usize) -> V2
     }
 }
 
-// One look at every triangle says three things: each of its names is a vertex's, the coordinates of each are finite, and it does not turn right.
+// Beside that of `mitc_tri3`, with its `add_all`: a trait over where names and points lie would be longer than the two.
+#[tactic(auto, unfolding(places::specs::Plane::corners_at))]
+fn corners_at(points: &[u8], i0: usize, i1: usize, i2: usize) -> Tri2
+    ensures { result ≡ corners_at (xy_in points.now) i0 i1 i2 }
+{
+    let p0 = point(points, i0);
+    let p1 = point(points, i1);
+    let p2 = point(points, i2);
+    Tri2 { p0, p1, p2 }
+}
+
+// One look at every triangle, by number as in `add_all`, says three things: each of its names is a vertex's, the coordinates of each are finite, and it does not turn right.
 fn look(points: &[u8], cells: &[u8]) -> Seen
     ensures { result ≡ seen_of (names_in cells.now) (xy_in points.now) }
 {
@@ -60,13 +68,10 @@ fn look(points: &[u8], cells: &[u8]) -> Seen
     let mut finite = true;
     let mut unturned = true;
     for t in 0..triangles {
-        let n = names(cells, t);
-        let p0 = point(points, n.i0);
-        let p1 = point(points, n.i1);
-        let p2 = point(points, n.i2);
-        let p = Tri2 { p0, p1, p2 };
-        named = named & ((n.i0 < vertices) & (n.i1 < vertices) & (n.i2 < vertices));
-        finite = finite & plane::is_finite(p);
+        let [i0, i1, i2] = names(cells, t);
+        let p = corners_at(points, i0, i1, i2);
+        named = named & ((i0 < vertices) & (i1 < vertices) & (i2 < vertices));
+        finite = finite & p.is_finite();
         unturned = unturned & !tri2::turns_right(p);
     }
     Seen {
@@ -76,46 +81,48 @@ fn look(points: &[u8], cells: &[u8]) -> Seen
     }
 }
 
-// The triangles in the file's order.
+// The triangles in the file's order, by number: `mesh::name` takes it, and the file's cells are no list of names.
 fn add_all(points: &[u8], cells: &[u8], thick: f64, rho: f64, vtx2mass: &mut [f64])
     requires cells_value { names_below (vertices_of (xy_in points.now)) (names_in cells.now) ≡ true }
     requires vtx2mass_len { length «vtx2mass».old ≡ vertices_of (xy_in points.now) * 3 }
     ensures { «vtx2mass».new ≡ add_all binary64 (names_in cells.now) (xy_in points.now) thick rho «vtx2mass».old }
 {
     for t in 0..cells.len() / 16 {
-        let n = names(cells, t);
-        let p0 = point(points, n.i0);
-        let p1 = point(points, n.i1);
-        let p2 = point(points, n.i2);
-        let m = masses::mass(thick, rho, Tri2 { p0, p1, p2 });
-        places::add_triangle(vtx2mass, n.i0, n.i1, n.i2, m, m, m);
+        let [i0, i1, i2] = names(cells, t);
+        let m = masses::mass(thick, rho, corners_at(points, i0, i1, i2));
+        places::add_triangle(vtx2mass, [i0, i1, i2], [m; 3]);
     }
 }
 
 // As `mitc_tri3::mass_lumped_plate_bending` of the names and the coordinates that the blocks stand for.
-pub fn masses(points: &[u8], cells: &[u8], material: Material, vtx2mass: &mut [f64]) -> u32
-    ensures { IsMasses binary64 (names_in cells.now) (xy_in points.now) material «vtx2mass».old result «vtx2mass».new }
+pub fn masses(
+    points: &[u8],
+    cells: &[u8],
+    material: Material,
+    vtx2mass: &mut [f64],
+) -> Result<(), Refusal>
+    ensures { IsMasses binary64 (names_in cells.now) (xy_in points.now) material «vtx2mass».old (answer_number result) «vtx2mass».new }
 {
     let thick = material.thickness;
     let rho = material.density;
     if refusal::bad_length(points.len() / 24, cells.len() / 16 * 3, vtx2mass.len()) {
-        return BAD_LENGTH;
+        return Err(Refusal::BadLength);
     }
     let seen = look(points, cells);
     if !seen.named {
-        return BAD_NAME;
+        return Err(Refusal::BadName);
     }
     if !(float::is_finite(thick) & float::is_finite(rho) & seen.finite) {
-        return BAD_INPUT;
+        return Err(Refusal::BadInput);
     }
     if !seen.unturned {
-        return TURNED;
+        return Err(Refusal::Turned);
     }
     lists::clear(vtx2mass);
     add_all(points, cells, thick, rho, vtx2mass);
     if !lists::all_finite(vtx2mass) {
         lists::clear(vtx2mass);
-        return BAD_ANSWER;
+        return Err(Refusal::BadAnswer);
     }
-    ACCEPTED
+    Ok(())
 }

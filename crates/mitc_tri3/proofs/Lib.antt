@@ -2,3 +2,4 @@ pub mod PlateAnswer
 pub mod MassesReturns
 pub mod MassesAnswer
 pub mod Vertex
+pub mod Triangles

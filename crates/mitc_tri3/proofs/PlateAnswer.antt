@@ -7,13 +7,16 @@ use mathlib.Core.Logic.{◌↔◌}
 use lib.Ieee.{Float, Format}
 use lib.Ieee.Scale.{finite}
 use lib.ListN.{replicate}
+use Rattle.std.specs.Prelude.{Result}
 use Rattle.float.specs.Ops.{ops}
 use Rattle.float.proofs.Unique.{only}
 use Rattle.refusal.specs.Refusal.{accepted, turned, bad_stiffness, kernel_rows, Exactly}
-use Rattle.refusal.specs.Answers.{energy_of, taken_of}
 use Rattle.refusal.specs.declared.Energy.{Energy}
+use Rattle.refusal.specs.declared.Refusal.{Refusal}
+use Rattle.refusal.specs.Answers.{EnergyGiven, energy_given, energy_of, taken_of}
 use Rattle.refusal.specs.declared.Tests.{Tests}
 use Rattle.refusal.proofs.EnergyAnswer as energy
+use Rattle.refusal.proofs.EnergyGiven.{given_once}
 use Rattle.refusal.proofs.KernelNumber.{six_exactly}
 use Rattle.material.specs.Material.{is_finite_of, lame_of, computed, is_bad_of, tested_of, lame_material, young_material}
 use Rattle.material.specs.declared.LamePair.{LamePair}
@@ -32,13 +35,17 @@ module _ (f : Format) (p u : List (List Float)) where
 
   module _ (m : Material) where
     -- no second answer fits
-    pub unique : {r q : Energy} → IsPlate f p u m r → IsPlate f p u m q → r ≡ q
+    pub unique : {r q : EnergyGiven} → IsPlate f p u m r → IsPlate f p u m q → r ≡ q
     unique = only
+
+    -- nor does a second result of `w_dw_ddw_plate_bending`
+    pub unique_result : {r q : Result Energy Refusal} → IsPlate f p u m (energy_given f r) → IsPlate f p u m (energy_given f q) → r ≡ q
+    unique_result a b = given_once f _ _ (only a b)
 
     abbrev tests : Tests
     tests = tests_of f (plane.corners_of p) (space.corners_of u) m.thickness m.stiffness
 
-    module _ {r : Energy} (is : IsPlate f p u m r) where
+    module _ {r : EnergyGiven} (is : IsPlate f p u m r) where
       pub numbers_exactly : Exactly r.number (kernel_rows tests)
       unfolding plate_of
       numbers_exactly = energy.numbers_exactly f tests _ _ _ is
@@ -68,10 +75,10 @@ module _ (f : Format) (p u : List (List Float)) where
       accepted_values = energy.accepted_values f tests _ _ _ is
 
   -- the density is not looked at: whatever it is, a NaN too, the answer is one
-  pub looked_at : (m n : Material) → m.thickness ≡ n.thickness → m.stiffness ≡ n.stiffness → {r q : Energy} → IsPlate f p u m r → IsPlate f p u n q → r ≡ q
+  pub looked_at : (m n : Material) → m.thickness ≡ n.thickness → m.stiffness ≡ n.stiffness → {r q : EnergyGiven} → IsPlate f p u m r → IsPlate f p u n q → r ≡ q
   looked_at m n t e a b = only a (rw (t, e) b)
 
-  module _ (density thickness e v : Float) {r : Energy} (is : IsPlate f p u (young_material density thickness e v) r) where
+  module _ (density thickness e v : Float) {r : EnergyGiven} (is : IsPlate f p u (young_material density thickness e v) r) where
     abbrev numbers : LamePair → Float × List Float × List Float
     numbers = numbers_of f (plane.corners_of p) (space.corners_of u) thickness
 

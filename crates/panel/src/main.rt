@@ -1,26 +1,16 @@
 // Sizes the panels that are built in here and prints them for a person: the masses of each vertex (01-scope 5.3), or in words why there are none (01-scope 2.1).
 #![tactic(auto)]
 
-ghost use Rattle.std.specs.Prelude.{◌≤◌};
-
 mod number;
 
 use material::Material;
-use std::io;
-
-fn text(rt: &impl Print, bytes: &[u8]) -> io::Result<()> {
-    rt.write_all(bytes)
-}
+use refusal::Refusal;
+use std::{array, io};
 
 // Ends an entry of a table that has used so many places of its column.
-fn end_entry(rt: &impl Print, used: usize, column: usize) -> io::Result<()>
-    requires { column ≤ 16 }
-{
-    let blanks = [b' '; 16];
-    if used < column {
-        text(rt, &blanks[used..column])?;
-    }
-    text(rt, b"  ")
+fn end_entry(rt: &impl Print, used: usize, column: usize) -> io::Result<()> {
+    let blanks = column.saturating_sub(used);
+    print!(rt; "{:blanks$}  ", "")
 }
 
 fn put_row(
@@ -34,39 +24,30 @@ fn put_row(
     end_entry(rt, number::put(rt, translation)?, 16)?;
     end_entry(rt, number::put(rt, rotation_x)?, 16)?;
     number::put(rt, rotation_y)?;
-    text(rt, b"\n")
+    println!(rt)
 }
 
 // A row for each vertex; answers the sum of the translations, from +0, in the vertices' order.
 fn put_rows(rt: &impl Print, vtx2mass: &[f64]) -> io::Result<f64> {
     let mut sum = 0.0;
-    for v in 0..vtx2mass.len() / 3 {
-        let translation = vtx2mass[v * 3];
-        put_row(rt, v, translation, vtx2mass[v * 3 + 1], vtx2mass[v * 3 + 2])?;
-        sum = sum + translation;
+    let (rows, _) = vtx2mass.as_chunks::<3>();
+    for (v, &[translation, rotation_x, rotation_y]) in rows.iter().enumerate() {
+        put_row(rt, v, translation, rotation_x, rotation_y)?;
+        sum += translation;
     }
     Ok(sum)
 }
 
 fn put_table(rt: &impl Print, vtx2mass: &[f64]) -> io::Result<()> {
-    text(
-        rt,
-        b"vertex  translation       rotation x        rotation y\n",
-    )?;
+    println!(rt; "vertex  translation       rotation x        rotation y")?;
     let sum = put_rows(rt, vtx2mass)?;
-    text(rt, b"sum of translations ")?;
+    print!(rt; "sum of translations ")?;
     number::put(rt, sum)?;
-    text(rt, b"\n")
+    println!(rt)
 }
 
-fn put_refusal(rt: &impl Print, number: u32) -> io::Result<()> {
-    let mut words = [0u8; 64];
-    let length = words::meaning(number, &mut words);
-    text(rt, b"refused: ")?;
-    text(rt, &words[..length])?;
-    text(rt, b" (")?;
-    number::put_whole(rt, number as u64)?;
-    text(rt, b")\n")
+fn put_refusal(rt: &impl Print, refusal: Refusal) -> io::Result<()> {
+    println!(rt; "refused: {refusal} ({})", refusal.number())
 }
 
 fn put_heading(
@@ -76,15 +57,11 @@ fn put_heading(
     density: f64,
     thickness: f64,
 ) -> io::Result<()> {
-    text(rt, b"vertices ")?;
-    number::put_whole(rt, vertices as u64)?;
-    text(rt, b", triangles ")?;
-    number::put_whole(rt, triangles as u64)?;
-    text(rt, b", density ")?;
+    print!(rt; "vertices {vertices}, triangles {triangles}, density ")?;
     number::put(rt, density)?;
-    text(rt, b", thickness ")?;
+    print!(rt; ", thickness ")?;
     number::put(rt, thickness)?;
-    text(rt, b"\n")
+    println!(rt)
 }
 
 // Masses look at no stiffness.
@@ -98,11 +75,10 @@ fn size(
 ) -> io::Result<()> {
     put_heading(rt, vtx2xy.len() / 2, tri2vtx.len() / 3, density, thickness)?;
     let material = Material::lame(density, thickness, 0.0, 0.0);
-    let number = mitc_tri3::mass_lumped_plate_bending(tri2vtx, vtx2xy, material, vtx2mass);
-    if number != refusal::ACCEPTED {
-        return put_refusal(rt, number);
+    match mitc_tri3::mass_lumped_plate_bending(tri2vtx, vtx2xy, material, vtx2mass) {
+        Ok(()) => put_table(rt, vtx2mass),
+        Err(refusal) => put_refusal(rt, refusal),
     }
-    put_table(rt, vtx2mass)
 }
 
 // The points of 01-scope 7, density 2 and thickness 1.
@@ -134,19 +110,11 @@ fn name(triangle: usize, corner: usize) -> usize {
 }
 
 fn coordinates() -> [f64; 44] {
-    let mut vtx2xy = [0.0; 44];
-    for i in 0..44 {
-        vtx2xy[i] = coordinate(i);
-    }
-    vtx2xy
+    array::from_fn(coordinate)
 }
 
 fn names() -> [usize; 60] {
-    let mut tri2vtx = [0usize; 60];
-    for i in 0..60 {
-        tri2vtx[i] = name(i / 3, i % 3);
-    }
-    tri2vtx
+    array::from_fn(|i| name(i / 3, i % 3))
 }
 
 fn strip(rt: &impl Print) -> io::Result<()> {
@@ -157,13 +125,13 @@ fn strip(rt: &impl Print) -> io::Result<()> {
 }
 
 fn main(rt: HostRuntime) -> io::Result<()> {
-    text(&rt, b"Square panel\n")?;
+    println!(rt; "Square panel")?;
     square(&rt, [0, 1, 2, 1, 3, 2])?;
-    text(&rt, b"\nWall strip, 240 by 40 by 0.5 cm, in kg and cm\n")?;
-    text(&rt, b"hinge row: vertices 0 to 10\n")?;
+    println!(rt; "\nWall strip, 240 by 40 by 0.5 cm, in kg and cm")?;
+    println!(rt; "hinge row: vertices 0 to 10")?;
     strip(&rt)?;
-    text(&rt, b"\nSquare panel, turned round\n")?;
+    println!(rt; "\nSquare panel, turned round")?;
     square(&rt, [0, 2, 1, 1, 2, 3])?;
-    text(&rt, b"\nSquare panel, a name too far\n")?;
+    println!(rt; "\nSquare panel, a name too far")?;
     square(&rt, [0, 1, 2, 1, 4, 2])
 }

@@ -24,22 +24,20 @@ pub(crate) fn put_whole(rt: &impl Print, n: u64) -> io::Result<usize>
     Ok(text.len())
 }
 
-// The digits of rest / 1024, after the point; ten are always enough.
+// The digits of rest / 1024, after the point; ten are always enough. How many were put is the answer, so they are counted.
 fn put_fraction(rt: &impl Print, rest: u64) -> io::Result<usize>
     requires { rest < 1024 }
     ensures { IfOk result (λ n. n ≤ 10) }
 {
     let mut left = rest;
-    let mut count = 0;
-    while count < 10 {
+    for count in 0..10 {
         if left == 0 {
             return Ok(count);
         }
         print!(rt; "{}", left * 10 / 1024)?;
         left = left * 10 % 1024;
-        count = count + 1;
     }
-    Ok(count)
+    Ok(10)
 }
 
 fn put_decimal(rt: &impl Print, negative: bool, n: u64) -> io::Result<usize>
@@ -57,9 +55,8 @@ pub(crate) fn put(rt: &impl Print, x: f64) -> io::Result<usize>
     ensures { IfOk result (λ n. n ≤ 32) }
 {
     let w = float::to_word(x);
-    let size = units::scaled(w);
-    if size.exact {
-        return put_decimal(rt, 0x8000_0000_0000_0000 <= w, size.n);
+    if let Some(n) = units::scaled(w) {
+        return put_decimal(rt, 0x8000_0000_0000_0000 <= w, n);
     }
     print!(rt; "{w:016x}")?;
     Ok(16)

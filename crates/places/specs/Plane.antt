@@ -1,7 +1,7 @@
 -- The vertices of a panel, from a flat list of two coordinates for each (01-scope 2.3).
 use Rattle.std.specs.Prelude.{Bool, List, ℕ, ◌+◌, ◌*◌, ◌/◌, Float, length}
 use Rattle.float.specs.Lists.{◌!◌, every, map_threes}
-use Rattle.del_geo_core.specs.declared.tri2.Tri2.{Tri2}
+use Rattle.del_geo_core.specs.Tri2.{Tri2}
 use Rattle.del_geo_core.specs.declared.tri2.V2.{V2}
 use Rattle.corners.specs.Plane.{point_finite}
 

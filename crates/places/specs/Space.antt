@@ -1,7 +1,7 @@
 -- The points of a skin, from a flat list of three numbers for each (01-scope 2.5).
 use Rattle.std.specs.Prelude.{List, ℕ, ◌+◌, ◌*◌, ◌/◌, Float, length}
 use Rattle.float.specs.Lists.{◌!◌}
-use Rattle.del_geo_core.specs.declared.tri3.Tri3.{Tri3}
+use Rattle.del_geo_core.specs.Tri3.{Tri3}
 use Rattle.vec3.specs.declared.V3.{V3}
 
 -- how many there are

@@ -1,2 +1,1 @@
-pub mod FiveLists
 pub mod Unique

@@ -3,8 +3,8 @@ use mathlib.Core.Path.{◌≡◌}
 use mathlib.Core.List.{List}
 use lib.Ieee.{Float, Format}
 use Rattle.float.proofs.Unique.{only}
-use Rattle.del_geo_core.specs.declared.tri2.Tri2.{Tri2}
-use Rattle.del_geo_core.specs.declared.tri3.Tri3.{Tri3}
+use Rattle.del_geo_core.specs.Tri2.{Tri2}
+use Rattle.del_geo_core.specs.Tri3.{Tri3}
 use Rattle.plate.specs.Plate.{state_of, w_of, dw_of, ddw_of}
 use Rattle.plate.specs.declared.State.{State}
 

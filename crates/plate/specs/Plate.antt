@@ -7,9 +7,9 @@ use Rattle.del_geo_core.specs.CurveLinearCoords.{inverse_of}
 use Rattle.del_geo_core.specs.Tri2.{area_of}
 use Rattle.del_geo_core.specs.declared.curve_linear_coords.DualBasis.{DualBasis}
 use Rattle.del_geo_core.specs.declared.mat3_row_major.Matrix3.{Matrix3}
-use Rattle.del_geo_core.specs.declared.tri2.Tri2.{Tri2}
+use Rattle.del_geo_core.specs.Tri2.{Tri2}
 use Rattle.del_geo_core.specs.declared.tri2.V2.{V2}
-use Rattle.del_geo_core.specs.declared.tri3.Tri3.{Tri3}
+use Rattle.del_geo_core.specs.Tri3.{Tri3}
 use Rattle.vec3.specs.declared.V3.{V3}
 use Rattle.edges.specs.Edges.{plane_of, gu_gu_of}
 use Rattle.plate_bending.specs.Bending as bending

@@ -4,9 +4,8 @@
 
 ghost use Rattle.std.specs.Prelude.{◌≡◌, ◌<◌};
 ghost use Rattle.std.specs.Float.{binary64};
-ghost use Rattle.float.specs.Lists.{table};
 ghost use Rattle.plate.specs.Plate.{gd_of, state_of, column3_of, column2_of, w_of, dw_of, ddw_of};
-ghost use Rattle.plate.specs.Parts.{columns_of, sum_of, dw_at_of, ddw_at_of};
+ghost use Rattle.plate.specs.Parts.{dstrains_of, columns_of, sum_of, dw_at_of, ddw_at_of, row_of};
 
 use del_geo_core::curve_linear_coords::DualBasis;
 use del_geo_core::mat3_row_major::Matrix3;
@@ -15,6 +14,7 @@ use del_geo_core::tri3::Tri3;
 use del_geo_core::{curve_linear_coords, tri2};
 use plate_bending::Bending;
 use plate_shear::Shear;
+use std::array;
 use vec3::V3;
 
 // What the energy and its derivatives are made of.
@@ -27,7 +27,17 @@ pub struct State {
     pub shear: Shear,
 }
 
-// dstrain by one degree of freedom (ino, idof): at the two points of bending and the three of shear.
+// dstrain[k], each with its nine places ino * 3 + idof in a row, at the two points of bending and the three of shear.
+#[derive(Clone, Copy)]
+pub(crate) struct Dstrains {
+    pub bending0: [[f64; 9]; 3],
+    pub bending1: [[f64; 9]; 3],
+    pub shear0: [[f64; 9]; 2],
+    pub shear1: [[f64; 9]; 2],
+    pub shear2: [[f64; 9]; 2],
+}
+
+// The same by one degree of freedom.
 #[derive(Clone, Copy)]
 pub(crate) struct Dstrain {
     pub bending0: V3,
@@ -38,6 +48,7 @@ pub(crate) struct Dstrain {
 }
 
 // Covariant basis vectors: two edges and half the thickness.
+#[tactic(auto, unfolding(crate::specs::Plate::gd_of))]
 fn gd(p: Tri2, thk: f64) -> Matrix3
     ensures { result ≡ gd_of binary64 p thk }
 {
@@ -52,6 +63,8 @@ fn gd(p: Tri2, thk: f64) -> Matrix3
     Matrix3 { x, y, z }
 }
 
+// lambda and myu stand apart, as in the source and in the definitions: these numbers know of no material.
+#[tactic(auto, unfolding(crate::specs::Plate::state_of, crate::specs::Plate::gu_of))]
 pub fn state_of(p: Tri2, u: Tri3, thk: f64, lambda: f64, myu: f64) -> State
     ensures { result ≡ state_of binary64 p u thk lambda myu }
 {
@@ -77,19 +90,21 @@ fn sum(bending0: f64, bending1: f64, shear0: f64, shear1: f64, shear2: f64) -> f
     0.0 + bending0 + bending1 + shear0 + shear1 + shear2
 }
 
+#[tactic(auto, unfolding(crate::specs::Plate::w_of, crate::specs::Plate::accumulated_of, float::specs::Lists::fold, plate_bending::specs::Bending::t0s, plate_shear::specs::Shear::rs, plate_shear::specs::Shear::ss))]
 pub fn w(s: State) -> f64
     ensures { result ≡ w_of binary64 s }
 {
+    let [t0_first, t0_second] = plate_bending::t0s();
     sum(
-        plate_bending::w(s.bending, plate_bending::t0_first()),
-        plate_bending::w(s.bending, plate_bending::t0_second()),
+        plate_bending::w(s.bending, t0_first),
+        plate_bending::w(s.bending, t0_second),
         plate_shear::w(s.shear, 0.5, 0.0),
         plate_shear::w(s.shear, 0.5, 0.5),
         plate_shear::w(s.shear, 0.0, 0.5),
     )
 }
 
-// dstrain[k][ino][idof] for each k, where i is ino * 3 + idof: at a point of bending, and at one of shear.
+// For each k, where i is ino * 3 + idof: at a point of bending, and at one of shear. Two functions, since the vectors have fields and not places.
 fn column3(dstrain: &[[f64; 9]; 3], i: usize) -> V3
     requires { i < 9 }
     ensures { result ≡ column3_of dstrain.now i }
@@ -111,38 +126,44 @@ fn column2(dstrain: &[[f64; 9]; 2], i: usize) -> V2
     }
 }
 
-// The same at all points.
-fn columns(
-    b0: &[[f64; 9]; 3],
-    b1: &[[f64; 9]; 3],
-    s0: &[[f64; 9]; 2],
-    s1: &[[f64; 9]; 2],
-    s2: &[[f64; 9]; 2],
-    i: usize,
-) -> Dstrain
-    requires { i < 9 }
-    ensures { result ≡ columns_of b0.now b1.now s0.now s1.now s2.now i }
-{
-    let bending0 = column3(b0, i);
-    let bending1 = column3(b1, i);
-    let shear0 = column2(s0, i);
-    let shear1 = column2(s1, i);
-    let shear2 = column2(s2, i);
-    Dstrain {
-        bending0,
-        bending1,
-        shear0,
-        shear1,
-        shear2,
+impl Dstrains {
+    #[tactic(auto, unfolding(crate::specs::Parts::dstrains_of))]
+    fn of(gd: Matrix3, thk: f64) -> Dstrains
+        ensures { result ≡ dstrains_of binary64 gd thk }
+    {
+        let [t0_first, t0_second] = plate_bending::t0s();
+        Dstrains {
+            bending0: plate_bending::dstrain(gd, thk, t0_first),
+            bending1: plate_bending::dstrain(gd, thk, t0_second),
+            shear0: plate_shear::dstrain(gd, thk, 0.5, 0.0),
+            shear1: plate_shear::dstrain(gd, thk, 0.5, 0.5),
+            shear2: plate_shear::dstrain(gd, thk, 0.0, 0.5),
+        }
+    }
+
+    #[tactic(auto, unfolding(crate::specs::Parts::columns_of))]
+    fn columns(&self, i: usize) -> Dstrain
+        requires { i < 9 }
+        ensures { result ≡ columns_of self.now i }
+    {
+        Dstrain {
+            bending0: column3(&self.bending0, i),
+            bending1: column3(&self.bending1, i),
+            shear0: column2(&self.shear0, i),
+            shear1: column2(&self.shear1, i),
+            shear2: column2(&self.shear2, i),
+        }
     }
 }
 
+#[tactic(auto, unfolding(crate::specs::Parts::dw_at_of))]
 fn dw_at(s: State, d: Dstrain) -> f64
     ensures { result ≡ dw_at_of binary64 s d }
 {
+    let [t0_first, t0_second] = plate_bending::t0s();
     sum(
-        plate_bending::dw(s.bending, plate_bending::t0_first(), d.bending0),
-        plate_bending::dw(s.bending, plate_bending::t0_second(), d.bending1),
+        plate_bending::dw(s.bending, t0_first, d.bending0),
+        plate_bending::dw(s.bending, t0_second, d.bending1),
         plate_shear::dw(s.shear, 0.5, 0.0, d.shear0),
         plate_shear::dw(s.shear, 0.5, 0.5, d.shear1),
         plate_shear::dw(s.shear, 0.0, 0.5, d.shear2),
@@ -152,18 +173,13 @@ fn dw_at(s: State, d: Dstrain) -> f64
 pub fn dw(s: State) -> [f64; 9]
     ensures { result ≡ dw_of binary64 s }
 {
-    let b0 = plate_bending::dstrain(s.gd, s.thk, plate_bending::t0_first());
-    let b1 = plate_bending::dstrain(s.gd, s.thk, plate_bending::t0_second());
-    let s0 = plate_shear::dstrain(s.gd, s.thk, 0.5, 0.0);
-    let s1 = plate_shear::dstrain(s.gd, s.thk, 0.5, 0.5);
-    let s2 = plate_shear::dstrain(s.gd, s.thk, 0.0, 0.5);
-    let mut dw = [0.0; 9];
-    for i in 0..9usize {
-        dw[i] = dw_at(s, columns(&b0, &b1, &s0, &s1, &s2, i));
-    }
-    dw
+    let dstrains = Dstrains::of(s.gd, s.thk);
+    array::from_fn(|i| dw_at(s, dstrains.columns(i)))
 }
 
+// Inlined, though it is called at two places.
+#[inline(always)]
+#[tactic(auto, unfolding(crate::specs::Parts::ddw_at_of))]
 fn ddw_at(s: State, di: Dstrain, dj: Dstrain) -> f64
     ensures { result ≡ ddw_at_of binary64 s di dj }
 {
@@ -176,39 +192,18 @@ fn ddw_at(s: State, di: Dstrain, dj: Dstrain) -> f64
     )
 }
 
-// The same for a row's last entry: a function that is called at one place alone is inlined wherever the kernel is called from, one that is called at two only from a hot loop.
-fn ddw_last(s: State, di: Dstrain, dj: Dstrain) -> f64
-    ensures { result ≡ ddw_at_of binary64 s di dj }
-{
-    sum(
-        plate_bending::ddw(s.bending, di.bending0, dj.bending0),
-        plate_bending::ddw(s.bending, di.bending1, dj.bending1),
-        plate_shear::ddw(s.shear, di.shear0, dj.shear0),
-        plate_shear::ddw(s.shear, di.shear1, dj.shear1),
-        plate_shear::ddw(s.shear, di.shear2, dj.shear2),
-    )
-}
-
-// The nine entries by degree of freedom i and each j. Eight stand in a loop of their own: an even count, which the compiler takes two at a time.
-fn row(
-    s: State,
-    b0: &[[f64; 9]; 3],
-    b1: &[[f64; 9]; 3],
-    s0: &[[f64; 9]; 2],
-    s1: &[[f64; 9]; 2],
-    s2: &[[f64; 9]; 2],
-    i: usize,
-) -> [f64; 9]
+// The nine entries by degree of freedom i and each j. Eight stand in a loop of their own, an even count, which the compiler takes two at a time: `array::from_fn` over all nine makes the
+// whole plate take a third more instructions.
+fn row(s: State, dstrains: &Dstrains, i: usize) -> [f64; 9]
     requires { i < 9 }
-    ensures { result ≡ (let at = columns_of b0.now b1.now s0.now s1.now s2.now in
-        table 9 (λ j. ddw_at_of binary64 s (at i) (at j))) }
+    ensures { result ≡ row_of binary64 s dstrains.now i }
 {
-    let di = columns(b0, b1, s0, s1, s2, i);
+    let di = dstrains.columns(i);
     let mut row = [0.0; 9];
     for j in 0..8usize {
-        row[j] = ddw_at(s, di, columns(b0, b1, s0, s1, s2, j));
+        row[j] = ddw_at(s, di, dstrains.columns(j));
     }
-    row[8] = ddw_last(s, di, columns(b0, b1, s0, s1, s2, 8));
+    row[8] = ddw_at(s, di, dstrains.columns(8));
     row
 }
 
@@ -216,16 +211,11 @@ fn row(
 pub fn ddw(s: State) -> [f64; 81]
     ensures { result ≡ ddw_of binary64 s }
 {
-    let b0 = plate_bending::dstrain(s.gd, s.thk, plate_bending::t0_first());
-    let b1 = plate_bending::dstrain(s.gd, s.thk, plate_bending::t0_second());
-    let s0 = plate_shear::dstrain(s.gd, s.thk, 0.5, 0.0);
-    let s1 = plate_shear::dstrain(s.gd, s.thk, 0.5, 0.5);
-    let s2 = plate_shear::dstrain(s.gd, s.thk, 0.0, 0.5);
+    let dstrains = Dstrains::of(s.gd, s.thk);
     let mut ddw = [0.0; 81];
     for i in 0..9usize {
-        let row = row(s, &b0, &b1, &s0, &s1, &s2, i);
-        for j in 0..9usize {
-            ddw[(i / 3 * 3 + j / 3) * 9 + i % 3 * 3 + j % 3] = row[j];
+        for (j, &entry) in row(s, &dstrains, i).iter().enumerate() {
+            ddw[(i / 3 * 3 + j / 3) * 9 + i % 3 * 3 + j % 3] = entry;
         }
     }
     ddw

@@ -8,7 +8,7 @@ use Rattle.root.specs.Root.{root_of}
 use Rattle.del_geo_core.specs.Mat3RowMajor.{mult_vec_of}
 use Rattle.vec3.specs.Vec3.{dot_of}
 use Rattle.del_geo_core.specs.declared.mat3_row_major.Matrix3.{Matrix3}
-use Rattle.del_geo_core.specs.declared.tri3.Tri3.{Tri3}
+use Rattle.del_geo_core.specs.Tri3.{Tri3}
 use Rattle.vec3.specs.declared.V3.{V3}
 use Rattle.edges.specs.declared.GuGu.{GuGu}
 use Rattle.plate_bending.specs.declared.Bending.{Bending}

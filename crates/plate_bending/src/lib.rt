@@ -3,7 +3,6 @@
 
 ghost use Rattle.std.specs.Prelude.{◌≡◌};
 ghost use Rattle.std.specs.Float.{binary64};
-ghost use Rattle.float.specs.Lists.{◌!◌};
 ghost use Rattle.plate_bending.specs.Bending.{coeffa_of, coeffb_of, de_dt_of, bending_of, t0s, strain_of, dstrain_of, w_of, dw_of, ddw_of};
 
 use del_geo_core::mat3_row_major;
@@ -79,6 +78,7 @@ fn de_dt(gd: Matrix3, u: Tri3, thk: f64) -> V3
     }
 }
 
+#[tactic(auto, unfolding(crate::specs::Bending::bending_of))]
 pub fn bending_of(
     gd: Matrix3,
     gu_gu: GuGu,
@@ -99,18 +99,11 @@ pub fn bending_of(
     }
 }
 
-// t0 at the first point, -1 / root(3), without computing it at every call.
-pub fn t0_first() -> f64
-    ensures { result ≡ t0s binary64 ! 0 }
+// t0 at the two points, -1 / root(3) and 1 / root(3), without computing them at every call.
+pub fn t0s() -> [f64; 2]
+    ensures { result ≡ t0s binary64 }
 {
-    -0.5773502691896258
-}
-
-// t0 at the second point, 1 / root(3).
-pub fn t0_second() -> f64
-    ensures { result ≡ t0s binary64 ! 1 }
-{
-    0.5773502691896258
+    [-0.5773502691896258, 0.5773502691896258]
 }
 
 fn strain(bending: Bending, t0: f64) -> V3
@@ -124,6 +117,7 @@ fn strain(bending: Bending, t0: f64) -> V3
 }
 
 // dstrain[k], each with its nine places ino * 3 + idof in a row.
+#[tactic(auto, unfolding(crate::specs::Bending::dstrain_of))]
 pub fn dstrain(gd: Matrix3, thk: f64, t0: f64) -> [[f64; 9]; 3]
     ensures { result ≡ dstrain_of binary64 gd thk t0 }
 {
@@ -165,6 +159,7 @@ pub fn dstrain(gd: Matrix3, thk: f64, t0: f64) -> [[f64; 9]; 3]
 }
 
 // What the point t0 adds to w.
+#[tactic(auto, unfolding(crate::specs::Bending::w_of))]
 pub fn w(bending: Bending, t0: f64) -> f64
     ensures { result ≡ w_of binary64 bending t0 }
 {
@@ -174,6 +169,7 @@ pub fn w(bending: Bending, t0: f64) -> f64
 }
 
 // What it adds to the entry of dw whose dstrain is d.
+#[tactic(auto, unfolding(crate::specs::Bending::dw_of))]
 pub fn dw(bending: Bending, t0: f64, d: V3) -> f64
     ensures { result ≡ dw_of binary64 bending t0 d }
 {
@@ -182,6 +178,7 @@ pub fn dw(bending: Bending, t0: f64, d: V3) -> f64
 }
 
 // What a point adds to the entry of ddw whose dstrain by (ino, idof) is di and by (jno, jdof) dj.
+#[tactic(auto, unfolding(crate::specs::Bending::ddw_of))]
 pub fn ddw(bending: Bending, di: V3, dj: V3) -> f64
     ensures { result ≡ ddw_of binary64 bending di dj }
 {

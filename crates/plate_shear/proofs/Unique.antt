@@ -5,7 +5,7 @@ use lib.Ieee.{Float, Format}
 use Rattle.float.proofs.Unique.{only}
 use Rattle.del_geo_core.specs.declared.mat3_row_major.Matrix3.{Matrix3}
 use Rattle.del_geo_core.specs.declared.tri2.V2.{V2}
-use Rattle.del_geo_core.specs.declared.tri3.Tri3.{Tri3}
+use Rattle.del_geo_core.specs.Tri3.{Tri3}
 use Rattle.edges.specs.declared.GuGu.{GuGu}
 use Rattle.plate_shear.specs.Shear.{shear_of, dstrain_of, w_of, dw_of, ddw_of}
 use Rattle.plate_shear.specs.declared.Shear.{Shear}

@@ -6,7 +6,7 @@ use Rattle.float.specs.Lists.{◌!◌, each, table}
 use Rattle.float.specs.Ops.{ops}
 use Rattle.del_geo_core.specs.declared.mat3_row_major.Matrix3.{Matrix3}
 use Rattle.del_geo_core.specs.declared.tri2.V2.{V2}
-use Rattle.del_geo_core.specs.declared.tri3.Tri3.{Tri3}
+use Rattle.del_geo_core.specs.Tri3.{Tri3}
 use Rattle.edges.specs.declared.GuGu.{GuGu}
 use Rattle.plate_shear.specs.declared.Matrix2.{Matrix2}
 use Rattle.plate_shear.specs.declared.Shear.{Shear}

@@ -9,6 +9,7 @@ use del_geo_core::mat3_row_major::Matrix3;
 use del_geo_core::tri2::V2;
 use del_geo_core::tri3::Tri3;
 use edges::GuGu;
+use std::array;
 
 // Two rows.
 #[derive(Clone, Copy)]
@@ -55,6 +56,7 @@ fn coeffb(coeffa: Matrix2) -> Matrix2
     Matrix2 { x, y }
 }
 
+#[tactic(auto, unfolding(crate::specs::Shear::shear_of))]
 pub fn shear_of(gd: Matrix3, gu_gu: GuGu, u: Tri3, area: f64, thk: f64, myu: f64) -> Shear
     ensures { result ≡ shear_of binary64 gd gu_gu u area thk myu }
 {
@@ -147,21 +149,21 @@ fn dcoeff_e_rt(gd: Matrix3, thk: f64) -> [f64; 9]
 }
 
 // dstrain[k], each with its nine places ino * 3 + idof in a row.
+#[tactic(auto, unfolding(crate::specs::Shear::dstrain_of))]
 pub fn dstrain(gd: Matrix3, thk: f64, r: f64, s: f64) -> [[f64; 9]; 2]
     ensures { result ≡ dstrain_of binary64 gd thk r s }
 {
     let de_rt_01 = de_rt_01(gd, thk);
     let de_st_20 = de_st_20(gd, thk);
     let dcoeff_e_rt = dcoeff_e_rt(gd, thk);
-    let mut dstrain = [[0.0; 9]; 2];
-    for i in 0..9usize {
-        dstrain[0][i] = de_rt_01[i] + dcoeff_e_rt[i] * s;
-        dstrain[1][i] = de_st_20[i] - dcoeff_e_rt[i] * r;
-    }
-    dstrain
+    [
+        array::from_fn(|i| de_rt_01[i] + dcoeff_e_rt[i] * s),
+        array::from_fn(|i| de_st_20[i] - dcoeff_e_rt[i] * r),
+    ]
 }
 
 // What the point (r, s) adds to w.
+#[tactic(auto, unfolding(crate::specs::Shear::w_of))]
 pub fn w(shear: Shear, r: f64, s: f64) -> f64
     ensures { result ≡ w_of binary64 shear r s }
 {
@@ -171,6 +173,7 @@ pub fn w(shear: Shear, r: f64, s: f64) -> f64
 }
 
 // What it adds to the entry of dw whose dstrain is d.
+#[tactic(auto, unfolding(crate::specs::Shear::dw_of))]
 pub fn dw(shear: Shear, r: f64, s: f64, d: V2) -> f64
     ensures { result ≡ dw_of binary64 shear r s d }
 {
@@ -179,6 +182,7 @@ pub fn dw(shear: Shear, r: f64, s: f64, d: V2) -> f64
 }
 
 // What a point adds to the entry of ddw whose dstrain by (ino, idof) is di and by (jno, jdof) dj.
+#[tactic(auto, unfolding(crate::specs::Shear::ddw_of))]
 pub fn ddw(shear: Shear, di: V2, dj: V2) -> f64
     ensures { result ≡ ddw_of binary64 shear di dj }
 {

@@ -8,9 +8,8 @@ use lib.ListN.{replicate}
 use borrow.Author.Tests.{eq-eqb, ne_eqb}
 use Rattle.float.specs.Lists.{every}
 use Rattle.float.specs.Ops.{ops}
-use Rattle.refusal.specs.Answers.{bad_energy_of, energy_of, taken_of}
+use Rattle.refusal.specs.Answers.{EnergyGiven, bad_energy_of, energy_of, taken_of}
 use Rattle.refusal.specs.Refusal.{accepted, bad_input, turned, zero_divisor, bad_answer, ◌⇒◌, kernel_rows, kernel_number, Exactly}
-use Rattle.refusal.specs.declared.Energy.{Energy}
 use Rattle.refusal.specs.declared.Tests.{Tests}
 use Rattle.refusal.proofs.Ladder.{never_given}
 use Rattle.refusal.proofs.KernelNumber.{kernel_exactly}
@@ -21,7 +20,7 @@ unfolding energy_of every
 taken_never_3 f right zero (w, dw, ddw) =
     never_given bad_input (λ (e : bad_input ≡ accepted). omega arith) (right ⇒ turned ∷ zero ⇒ zero_divisor ∷ bad_energy_of w dw ddw ⇒ bad_answer ∷ []) refl
 
-module _ (f : Format) (t : Tests) (w : Float) (dw ddw : List Float) {r : Energy} (is : r ≡ energy_of f (kernel_number t) w dw ddw) where
+module _ (f : Format) (t : Tests) (w : Float) (dw ddw : List Float) {r : EnergyGiven} (is : r ≡ energy_of f (kernel_number t) w dw ddw) where
   open ops f use {zero}
 
   pub numbers_exactly : Exactly r.number (kernel_rows t)

@@ -1,6 +1,8 @@
 pub mod Ladder
 pub mod KernelNumber
 pub mod EnergyAnswer
+pub mod Numbered
+pub mod EnergyGiven
 pub mod Unique
 pub mod Panel
 pub mod Listed

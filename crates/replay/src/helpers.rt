@@ -1,83 +1,99 @@
-// The helpers by their numbers (docs/REPLAY.md): how many numbers each takes, and its answer.
-ghost use Rattle.std.specs.Prelude.{◌≤◌};
-
-use crate::{input, output};
-use del_geo_core::tri3::Tri3;
+// The helpers of `del_geo_core` (docs/REPLAY.md).
+use crate::input::{Stop, next_number, next_points, next_word};
+use crate::output;
+use del_geo_core::tri2::Tri2;
 use del_geo_core::{curve_linear_coords, edge, tri2, tri3};
 use std::io;
 use vec3::V3;
 
-// 0 where the number is no helper's.
-pub(crate) fn inputs(helper: u64) -> usize
-    ensures { result ≤ 24 }
-{
-    match helper {
-        1 => 6,
-        2 => 6,
-        3 => 6,
-        4 => 4,
-        5 => 3,
-        6 => 3,
-        7 => 6,
-        8 => 9,
-        9 => 9,
-        10 => 6,
-        11 => 9,
-        _ => 0,
+#[derive(Clone, Copy)]
+enum Helper {
+    Dot,
+    Cross,
+    Sub,
+    Scale,
+    Norm,
+    Normalize,
+    PlaneArea,
+    Area,
+    UnitNormalArea,
+    Length,
+    Inverse,
+}
+
+impl TryFrom<u64> for Helper {
+    type Error = Stop;
+
+    fn try_from(word: u64) -> Result<Helper, Stop> {
+        Ok(match word {
+            1 => Helper::Dot,
+            2 => Helper::Cross,
+            3 => Helper::Sub,
+            4 => Helper::Scale,
+            5 => Helper::Norm,
+            6 => Helper::Normalize,
+            7 => Helper::PlaneArea,
+            8 => Helper::Area,
+            9 => Helper::UnitNormalArea,
+            10 => Helper::Length,
+            11 => Helper::Inverse,
+            _ => return Err(Stop::Unreadable),
+        })
     }
 }
 
-fn plane_area(x: [f64; 24]) -> f64 {
-    let p = corners::plane::corners(input::plane(x));
-    tri2::area(p.p0, p.p1, p.p2).area
+fn next_v3(stdin: &mut impl io::Read) -> Result<V3, Stop> {
+    Ok(V3 {
+        x: next_number(stdin)?,
+        y: next_number(stdin)?,
+        z: next_number(stdin)?,
+    })
 }
 
-fn points(x: [f64; 24]) -> Tri3 {
-    corners::space::corners(input::triangle(x, 0))
+// Helpers refuse nothing.
+fn put(rt: &impl Print, values: &[f64]) -> Result<(), Stop> {
+    Ok(output::put_answer(rt, 0, values)?)
 }
 
-fn number(helper: u64, x: [f64; 24]) -> f64 {
-    let p = points(x);
-    match helper {
-        1 => vec3::dot(p.p0, p.p1),
-        5 => vec3::norm(p.p0),
-        8 => tri3::area(p.p0, p.p1, p.p2),
-        _ => edge::length(p.p0, p.p1),
-    }
+fn put_v3(rt: &impl Print, v: V3) -> Result<(), Stop> {
+    put(rt, &[v.x, v.y, v.z])
 }
 
-fn vector(helper: u64, x: [f64; 24]) -> V3 {
-    let p = points(x);
-    match helper {
-        2 => vec3::cross(p.p0, p.p1),
-        3 => vec3::sub(p.p0, p.p1),
-        4 => vec3::scale(p.p0, p.p1.x),
-        _ => vec3::normalize(p.p0),
-    }
+fn put_plane_area(rt: &impl Print, stdin: &mut impl io::Read) -> Result<(), Stop> {
+    let p = Tri2::from(next_points(stdin)?);
+    put(rt, &[tri2::area(p.p0, p.p1, p.p2).area])
 }
 
-fn put_unit_normal_area(rt: &impl Print, x: [f64; 24]) -> io::Result<()> {
-    let p = points(x);
-    let answer = tri3::unit_normal_area(p.p0, p.p1, p.p2);
-    output::put_v3(rt, answer.normal.v)?;
-    output::put(rt, answer.area)
+fn put_unit_normal_area(rt: &impl Print, stdin: &mut impl io::Read) -> Result<(), Stop> {
+    let answer = tri3::unit_normal_area(next_v3(stdin)?, next_v3(stdin)?, next_v3(stdin)?);
+    let n = answer.normal.v;
+    put(rt, &[n.x, n.y, n.z, answer.area])
 }
 
-fn put_inverse(rt: &impl Print, x: [f64; 24]) -> io::Result<()> {
-    let p = points(x);
-    let answer = curve_linear_coords::inverse(p.p0, p.p1, p.p2);
-    output::put_v3(rt, answer.x.v)?;
-    output::put_v3(rt, answer.y.v)?;
-    output::put_v3(rt, answer.z.v)
+fn put_inverse(rt: &impl Print, stdin: &mut impl io::Read) -> Result<(), Stop> {
+    let answer = curve_linear_coords::inverse(next_v3(stdin)?, next_v3(stdin)?, next_v3(stdin)?);
+    let x = answer.x.v;
+    let y = answer.y.v;
+    let z = answer.z.v;
+    put(rt, &[x.x, x.y, x.z, y.x, y.y, y.z, z.x, z.y, z.z])
 }
 
-pub(crate) fn answer(rt: &impl Print, helper: u64, x: [f64; 24]) -> io::Result<()> {
-    output::start_line(rt, 0)?;
-    match helper {
-        1 | 5 | 8 | 10 => output::put(rt, number(helper, x)),
-        7 => output::put(rt, plane_area(x)),
-        9 => put_unit_normal_area(rt, x),
-        11 => put_inverse(rt, x),
-        _ => output::put_v3(rt, vector(helper, x)),
+// Reads the inputs in the record's order.
+pub(crate) fn replay(rt: &impl Print, stdin: &mut impl io::Read) -> Result<(), Stop> {
+    match Helper::try_from(next_word(stdin)?)? {
+        Helper::Dot => put(rt, &[vec3::dot(next_v3(stdin)?, next_v3(stdin)?)]),
+        Helper::Cross => put_v3(rt, vec3::cross(next_v3(stdin)?, next_v3(stdin)?)),
+        Helper::Sub => put_v3(rt, vec3::sub(next_v3(stdin)?, next_v3(stdin)?)),
+        Helper::Scale => put_v3(rt, vec3::scale(next_v3(stdin)?, next_number(stdin)?)),
+        Helper::Norm => put(rt, &[vec3::norm(next_v3(stdin)?)]),
+        Helper::Normalize => put_v3(rt, vec3::normalize(next_v3(stdin)?)),
+        Helper::PlaneArea => put_plane_area(rt, stdin),
+        Helper::Area => put(
+            rt,
+            &[tri3::area(next_v3(stdin)?, next_v3(stdin)?, next_v3(stdin)?)],
+        ),
+        Helper::UnitNormalArea => put_unit_normal_area(rt, stdin),
+        Helper::Length => put(rt, &[edge::length(next_v3(stdin)?, next_v3(stdin)?)]),
+        Helper::Inverse => put_inverse(rt, stdin),
     }
 }

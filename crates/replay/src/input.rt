@@ -9,15 +9,20 @@ const LAME: u64 = material::LAME as u64;
 
 const YOUNG: u64 = material::YOUNG as u64;
 
-// The input can end at a word's first byte (`ended`), or within it; ok where the word is whole.
+// What stops a run within a record: there is no whole record, or the input or the output fails.
 #[derive(Drop)]
-pub(crate) struct Word {
-    pub ended: bool,
-    pub ok: bool,
-    pub w: u64,
+pub(crate) enum Stop {
+    Unreadable,
+    Io(io::Error),
 }
 
-// Reads until the bytes are full or the input ends, and answers how many were read.
+impl From<io::Error> for Stop {
+    fn from(error: io::Error) -> Stop {
+        Stop::Io(error)
+    }
+}
+
+// Reads until the bytes are full or the input ends, and answers how many were read; std's `read_exact` answers no count where the input ends, and `read_to_end` fills a Vec. It stands in each program that reads: no statement determines what a reader gives, and what is public needs one.
 fn read_full(stdin: &mut impl io::Read, bytes: &mut [u8]) -> io::Result<usize>
     ensures { ReadsAtMost result bytes.new }
 {
@@ -32,104 +37,78 @@ fn read_full(stdin: &mut impl io::Read, bytes: &mut [u8]) -> io::Result<usize>
     Ok(done)
 }
 
-pub(crate) fn next_word(stdin: &mut impl io::Read) -> io::Result<Word> {
+// None where the input ends before the word.
+pub(crate) fn first_word(stdin: &mut impl io::Read) -> Result<Option<u64>, Stop> {
     let mut b = [0u8; 8];
-    let n = read_full(stdin, &mut b)?;
-    Ok(Word {
-        ended: n == 0,
-        ok: n == 8,
-        w: float::of_bytes(b[0], b[1], b[2], b[3], b[4], b[5], b[6], b[7]),
-    })
+    match read_full(stdin, &mut b)? {
+        0 => Ok(None),
+        8 => Ok(Some(float::of_bytes(b))),
+        _ => Err(Stop::Unreadable),
+    }
 }
 
-// On its own, for the cast of a parameter needs no proof.
-fn index(w: u64) -> usize {
-    w as usize
+pub(crate) fn next_word(stdin: &mut impl io::Read) -> Result<u64, Stop> {
+    first_word(stdin)?.ok_or(Stop::Unreadable)
 }
 
-// The length of a list of the record, 4,097 for every longer one.
-pub(crate) fn next_length(stdin: &mut impl io::Read) -> io::Result<usize>
-    ensures { IfOk result (λ n. n ≤ 4097) }
+pub(crate) fn next_number(stdin: &mut impl io::Read) -> Result<f64, Stop> {
+    Ok(float::of_word(next_word(stdin)?))
+}
+
+// The length of a list of the record, which has at most 4,096 entries.
+pub(crate) fn next_length(stdin: &mut impl io::Read) -> Result<usize, Stop>
+    ensures { IfOk result (λ n. n ≤ 4096) }
 {
-    let n = index(next_word(stdin)?.w);
-    Ok(if n <= 4096 { n } else { 4097 })
-}
-
-// Whether the input had a word for every place.
-pub(crate) fn fill_names(stdin: &mut impl io::Read, names: &mut [usize]) -> io::Result<bool> {
-    let mut ok = true;
-    for i in 0..names.len() {
-        let read = next_word(stdin)?;
-        names[i] = index(read.w);
-        ok = ok & read.ok;
-    }
-    Ok(ok)
-}
-
-pub(crate) fn fill_numbers(stdin: &mut impl io::Read, xs: &mut [f64]) -> io::Result<bool> {
-    let mut ok = true;
-    for i in 0..xs.len() {
-        let read = next_word(stdin)?;
-        xs[i] = float::of_word(read.w);
-        ok = ok & read.ok;
-    }
-    Ok(ok)
-}
-
-// A material, ok where its five words are whole and the first is a stiffness's.
-#[derive(Drop)]
-pub(crate) struct Read {
-    pub ok: bool,
-    pub material: Material,
-}
-
-pub(crate) fn next_material(stdin: &mut impl io::Read) -> io::Result<Read> {
-    let s = next_word(stdin)?;
-    let mut x = [0.0; 4];
-    let filled = fill_numbers(stdin, &mut x)?;
-    let known = (s.w == LAME) | (s.w == YOUNG);
-    let material = if s.w == LAME {
-        Material::lame(x[0], x[1], x[2], x[3])
+    let n = next_word(stdin)? as usize;
+    if n <= 4096 {
+        Ok(n)
     } else {
-        Material::young(x[0], x[1], x[2], x[3])
-    };
-    Ok(Read {
-        ok: s.ok & filled & known,
-        material,
-    })
+        Err(Stop::Unreadable)
+    }
 }
 
-// These take numbers from the i-th on.
-fn two(x: [f64; 24], i: usize) -> [f64; 2]
-    requires { i ≤ 22 }
+// Fills each place with what its word stands for.
+fn fill<T: Copy, F: Fn(u64) -> T>(
+    stdin: &mut impl io::Read,
+    places: &mut [T],
+    of_word: F,
+) -> Result<(), Stop>
+    requires { F.IsAlwaysCallable of_word }
 {
-    [x[i], x[i + 1]]
+    for place in places.iter_mut() {
+        *place = of_word(next_word(stdin)?);
+    }
+    Ok(())
 }
 
-fn three(x: [f64; 24], i: usize) -> [f64; 3]
-    requires { i ≤ 21 }
-{
-    [x[i], x[i + 1], x[i + 2]]
+pub(crate) fn fill_names(stdin: &mut impl io::Read, names: &mut [usize]) -> Result<(), Stop> {
+    fill(stdin, names, |w| w as usize)
 }
 
-// The first six numbers as three plane points.
-pub(crate) fn plane(x: [f64; 24]) -> [[f64; 2]; 3] {
-    [two(x, 0), two(x, 2), two(x, 4)]
+pub(crate) fn fill_numbers(stdin: &mut impl io::Read, xs: &mut [f64]) -> Result<(), Stop> {
+    fill(stdin, xs, |w| float::of_word(w))
 }
 
-pub(crate) fn triangle(x: [f64; 24], i: usize) -> [[f64; 3]; 3]
-    requires { i ≤ 15 }
-{
-    [three(x, i), three(x, i + 3), three(x, i + 6)]
+// N points of D coordinates each.
+pub(crate) fn next_points<const D: usize, const N: usize>(
+    stdin: &mut impl io::Read,
+) -> Result<[[f64; D]; N], Stop> {
+    let mut points = [[0.0; D]; N];
+    for point in points.iter_mut() {
+        fill_numbers(stdin, point)?;
+    }
+    Ok(points)
 }
 
-pub(crate) fn fold(x: [f64; 24], i: usize) -> [[f64; 3]; 4]
-    requires { i ≤ 12 }
-{
-    [
-        three(x, i),
-        three(x, i + 3),
-        three(x, i + 6),
-        three(x, i + 9),
-    ]
+pub(crate) fn next_material(stdin: &mut impl io::Read) -> Result<Material, Stop> {
+    let s = next_word(stdin)?;
+    let density = next_number(stdin)?;
+    let thickness = next_number(stdin)?;
+    let a = next_number(stdin)?;
+    let b = next_number(stdin)?;
+    match s {
+        LAME => Ok(Material::lame(density, thickness, a, b)),
+        YOUNG => Ok(Material::young(density, thickness, a, b)),
+        _ => Err(Stop::Unreadable),
+    }
 }

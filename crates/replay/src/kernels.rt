@@ -1,78 +1,64 @@
-// The kernels by their numbers (docs/REPLAY.md): how many numbers each takes before its material, if it takes one, and its answer.
-ghost use Rattle.std.specs.Prelude.{◌≤◌};
+// The kernels that answer records of one length (docs/REPLAY.md).
+ghost use Rattle.std.specs.Prelude.{◌*◌, ◌^◌, ◌<◌};
 
-use crate::{input, output};
-use material::Material;
-use refusal::Energy;
+use crate::input::{Stop, next_material, next_points};
+use crate::output;
+use refusal::Refusal;
 use std::io;
-use stvk_tri3::Strain;
+use values::Flat;
 
-const STVK: u64 = 4;
-
-const PLATE: u64 = 5;
-
-// 0 where the number is no kernel's.
-pub(crate) fn inputs(kind: u64) -> usize
-    ensures { result ≤ 24 }
-{
-    match kind {
-        2 => 24,
-        3 | 8 => 15,
-        STVK => 18,
-        PLATE => 15,
-        _ => 0,
-    }
+#[derive(Clone, Copy)]
+pub(crate) enum Kernel {
+    QuadraticBending,
+    Stvk,
+    StvkHessian,
+    PlateBending,
+    GreenLagrange,
 }
 
-fn put_bending(rt: &impl Print, x: [f64; 24]) -> io::Result<()> {
-    let answer = quadratic_bending::wdw(input::fold(x, 0), input::fold(x, 12));
-    output::start_line(rt, answer.number)?;
-    output::put_all(rt, &answer.w)?;
-    output::put_all(rt, &answer.dwdp)
-}
-
-fn put_strain(rt: &impl Print, answer: Strain) -> io::Result<()> {
-    output::start_line(rt, answer.number)?;
-    output::put_all(rt, &answer.w)?;
-    output::put_all(rt, &answer.dw)
-}
-
-fn put_energy(rt: &impl Print, answer: Energy) -> io::Result<()> {
-    output::start_line(rt, answer.number)?;
-    output::put(rt, answer.w)?;
-    output::put_all(rt, &answer.dw)?;
-    output::put_all(rt, &answer.ddw)
-}
-
-pub(crate) fn has_material(kind: u64) -> bool {
-    (kind == STVK) | (kind == PLATE)
-}
-
-pub(crate) fn answer(rt: &impl Print, kind: u64, x: [f64; 24]) -> io::Result<()> {
-    match kind {
-        2 => put_bending(rt, x),
-        3 => put_strain(rt, stvk_tri3::wdw(input::plane(x), input::triangle(x, 6))),
-        _ => put_strain(
-            rt,
-            stvk_tri3::wdw_green_lagrange(input::plane(x), input::triangle(x, 6)),
-        ),
-    }
-}
-
-pub(crate) fn answer_with(
+// The number, then the N values.
+fn put<T: Flat<N> + Drop, const N: usize>(
     rt: &impl Print,
-    kind: u64,
-    x: [f64; 24],
-    material: Material,
-) -> io::Result<()> {
-    match kind {
-        STVK => put_energy(
+    answer: Result<T, Refusal>,
+) -> io::Result<()>
+    requires { N * 8 < 2 ^ 63 }
+{
+    let mut values = [0.0; N];
+    let number = values::give(answer, &mut values);
+    output::put_answer(rt, number, &values)
+}
+
+// Reads the inputs in the record's order.
+pub(crate) fn replay(
+    rt: &impl Print,
+    stdin: &mut impl io::Read,
+    kernel: Kernel,
+) -> Result<(), Stop> {
+    Ok(match kernel {
+        Kernel::QuadraticBending => put(
             rt,
-            stvk_tri3::wdwddw_(input::triangle(x, 0), input::triangle(x, 9), material),
+            quadratic_bending::wdw(next_points(stdin)?, next_points(stdin)?),
         ),
-        _ => put_energy(
+        Kernel::Stvk => put(rt, stvk_tri3::wdw(next_points(stdin)?, next_points(stdin)?)),
+        Kernel::StvkHessian => put(
             rt,
-            mitc_tri3::w_dw_ddw_plate_bending(input::plane(x), input::triangle(x, 6), material),
+            stvk_tri3::wdwddw_(
+                next_points(stdin)?,
+                next_points(stdin)?,
+                next_material(stdin)?,
+            ),
         ),
-    }
+        Kernel::PlateBending => put(
+            rt,
+            mitc_tri3::w_dw_ddw_plate_bending(
+                next_points(stdin)?,
+                next_points(stdin)?,
+                next_material(stdin)?,
+            ),
+        ),
+        Kernel::GreenLagrange => put(
+            rt,
+            stvk_tri3::wdw_green_lagrange(next_points(stdin)?, next_points(stdin)?),
+        ),
+    }?)
 }

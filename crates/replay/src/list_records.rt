@@ -1,121 +1,85 @@
 // Records with lists, which are as long as the record says (docs/REPLAY.md): masses and whole skins.
-ghost use Rattle.std.specs.Prelude.{◌≤◌, length, IfOk};
-
-use crate::{input, output};
+use crate::input::{Stop, fill_names, fill_numbers, next_length, next_material};
+use crate::output;
 use material::Material;
-use skin::Skin;
+use refusal::ACCEPTED;
 use std::io;
 
-// The numbers are the n of the first list, then a skin's second list. Masses have no place and no energy.
-fn run(
-    skin: bool,
-    n: usize,
-    numbers: &[f64],
-    tri2vtx: &[usize],
-    material: Material,
-    buffer: &mut [f64],
-) -> Skin
-    requires { n ≤ length numbers.now }
-{
-    let first = &numbers[0..n];
-    if skin {
-        return skin::wdw(first, &numbers[n..], tri2vtx, material, buffer);
-    }
-    let number = mitc_tri3::mass_lumped_plate_bending(tri2vtx, first, material, buffer);
-    Skin {
-        number,
-        place: 0,
-        w: 0.0,
-    }
-}
-
-fn put(rt: &impl Print, skin: bool, answer: Skin, buffer: &[f64]) -> io::Result<()> {
-    output::start_line(rt, answer.number)?;
-    if skin {
-        output::put_word(rt, answer.place as u64)?;
-        output::put(rt, answer.w)?;
-    }
-    output::put_all(rt, buffer)?;
-    output::end_line(rt)
-}
-
-// Fills the lists from the input and writes the answer line; false where the input ended before their last word, and nothing is written then.
-fn is_filled(
+fn put_masses(
     rt: &impl Print,
     stdin: &mut impl io::Read,
-    skin: bool,
-    n: usize,
-    numbers: &mut [f64],
     tri2vtx: &mut [usize],
+    vtx2xy: &mut [f64],
     material: Material,
-    buffer: &mut [f64],
-) -> io::Result<bool>
-    requires { n ≤ length numbers.old }
-{
-    let ok = input::fill_numbers(stdin, numbers)?
-        & input::fill_names(stdin, tri2vtx)?
-        & input::fill_numbers(stdin, buffer)?;
-    if ok {
-        let answer = run(skin, n, numbers, tri2vtx, material, buffer);
-        put(rt, skin, answer, buffer)?;
-    }
-    Ok(ok)
+    vtx2mass: &mut [f64],
+) -> Result<(), Stop> {
+    fill_numbers(stdin, vtx2xy)?;
+    fill_names(stdin, tri2vtx)?;
+    fill_numbers(stdin, vtx2mass)?;
+    let answer = mitc_tri3::mass_lumped_plate_bending(tri2vtx, vtx2xy, material, vtx2mass);
+    output::put_answer(rt, refusal::number(&answer), vtx2mass)?;
+    Ok(())
 }
 
-// Whether the rest of the record was there: room for every length that is read, filled and answered.
-fn is_read(
-    rt: &impl Print,
-    stdin: &mut impl io::Read,
-    skin: bool,
-    n: usize,
-    m: usize,
-    t: usize,
-    b: usize,
-    material: Material,
-) -> io::Result<bool>
-    requires n_bound { n ≤ 4097 }
-    requires m_bound { m ≤ 4097 }
-    requires t_bound { t ≤ 4097 }
-    requires b_bound { b ≤ 4097 }
-{
-    let mut numbers = [0.0; 8194];
-    let mut tri2vtx = [0usize; 4097];
-    let mut buffer = [0.0; 4097];
-    let end = n + m;
-    is_filled(
+pub(crate) fn replay_masses(rt: &impl Print, stdin: &mut impl io::Read) -> Result<(), Stop> {
+    let n = next_length(stdin)?;
+    let t = next_length(stdin)?;
+    let b = next_length(stdin)?;
+    let material = next_material(stdin)?;
+    let mut vtx2xy = [0.0; 4096];
+    let mut tri2vtx = [0usize; 4096];
+    let mut vtx2mass = [0.0; 4096];
+    put_masses(
         rt,
         stdin,
-        skin,
-        n,
-        &mut numbers[0..end],
-        &mut tri2vtx[0..t],
+        &mut tri2vtx[..t],
+        &mut vtx2xy[..n],
         material,
-        &mut buffer[0..b],
+        &mut vtx2mass[..b],
     )
 }
 
-// Masses have one list of numbers beside the buffer, a skin has two.
-fn second_length(stdin: &mut impl io::Read, skin: bool) -> io::Result<usize>
-    ensures { IfOk result (λ n. n ≤ 4097) }
-{
-    if skin {
-        return input::next_length(stdin);
-    }
-    Ok(0)
-}
-
-// Whether there was a whole record; one with a list of more than 4,096 entries is none.
-pub(crate) fn is_answered(
+fn put_skin(
     rt: &impl Print,
     stdin: &mut impl io::Read,
-    skin: bool,
-) -> io::Result<bool> {
-    let n = input::next_length(stdin)?;
-    let m = second_length(stdin, skin)?;
-    let t = input::next_length(stdin)?;
-    let b = input::next_length(stdin)?;
-    let read = input::next_material(stdin)?;
-    let material = read.material;
-    let fits = (n <= 4096) & (m <= 4096) & (t <= 4096) & (b <= 4096);
-    Ok(fits && read.ok && is_read(rt, stdin, skin, n, m, t, b, material)?)
+    vtx2ini: &mut [f64],
+    vtx2def: &mut [f64],
+    tri2vtx: &mut [usize],
+    material: Material,
+    vtx2dw: &mut [f64],
+) -> Result<(), Stop> {
+    fill_numbers(stdin, vtx2ini)?;
+    fill_numbers(stdin, vtx2def)?;
+    fill_names(stdin, tri2vtx)?;
+    fill_numbers(stdin, vtx2dw)?;
+    let (number, place, w) = match skin::wdw(vtx2ini, vtx2def, tri2vtx, material, vtx2dw) {
+        Ok(w) => (ACCEPTED, 0, w),
+        Err(refused) => (refused.refusal.number(), refused.place, 0.0),
+    };
+    output::start_line(rt, number)?;
+    output::put_word(rt, place as u64)?;
+    output::put(rt, w)?;
+    output::put_all(rt, vtx2dw)?;
+    Ok(())
+}
+
+pub(crate) fn replay_skin(rt: &impl Print, stdin: &mut impl io::Read) -> Result<(), Stop> {
+    let n = next_length(stdin)?;
+    let m = next_length(stdin)?;
+    let t = next_length(stdin)?;
+    let b = next_length(stdin)?;
+    let material = next_material(stdin)?;
+    let mut vtx2ini = [0.0; 4096];
+    let mut vtx2def = [0.0; 4096];
+    let mut tri2vtx = [0usize; 4096];
+    let mut vtx2dw = [0.0; 4096];
+    put_skin(
+        rt,
+        stdin,
+        &mut vtx2ini[..n],
+        &mut vtx2def[..m],
+        &mut tri2vtx[..t],
+        material,
+        &mut vtx2dw[..b],
+    )
 }

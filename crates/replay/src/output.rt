@@ -1,6 +1,5 @@
 // Answer lines on standard output: words of 16 lower-case hexadecimal digits with one space between.
 use std::io;
-use vec3::V3;
 
 pub(crate) fn start_line(rt: &impl Print, number: u32) -> io::Result<()> {
     print!(rt; "{number:016x}")
@@ -14,17 +13,17 @@ pub(crate) fn put(rt: &impl Print, x: f64) -> io::Result<()> {
     put_word(rt, float::to_word(x))
 }
 
-pub(crate) fn put_v3(rt: &impl Print, v: V3) -> io::Result<()> {
-    put(rt, v.x)?;
-    put(rt, v.y)?;
-    put(rt, v.z)
-}
-
 pub(crate) fn put_all(rt: &impl Print, xs: &[f64]) -> io::Result<()> {
-    for i in 0..xs.len() {
-        put(rt, xs[i])?;
+    for &x in xs {
+        put(rt, x)?;
     }
     Ok(())
+}
+
+// A line but for its end, which the run writes.
+pub(crate) fn put_answer(rt: &impl Print, number: u32, values: &[f64]) -> io::Result<()> {
+    start_line(rt, number)?;
+    put_all(rt, values)
 }
 
 pub(crate) fn end_line(rt: &impl Print) -> io::Result<()> {

@@ -11,8 +11,11 @@ ghost use Rattle.whole_root.specs.Whole.{significand};
 ghost use Rattle.root.specs.Root.{SquareRoot, SquareRootWord, Nearest};
 ghost use Rattle.root.specs.Steps.{Unpacked};
 
+// The pattern of +infinity; those of the finite numbers that are not negative lie below it.
+const INFINITY_WORD: u64 = 0x7ff0_0000_0000_0000;
+
 // A number's parts: the digits that m leads with, the first taken for 1, times 2^u / 2^(1074 + 1022). The 1022 makes u / 2 the root's power.
-#[derive(Drop)]
+#[derive(Clone, Copy)]
 struct Parts {
     m: u64,
     u: u64,
@@ -23,16 +26,16 @@ fn moved_up(b: u64) -> Parts
     requires { (0 < b) × (b < 2 ^ 52) }
     ensures { Unpacked binary64 1022 b (significand result.m) result.u }
 {
-    let z = u64::leading_zeros(b);
+    let z = b.leading_zeros();
     Parts {
         m: b << z,
-        u: 1033 - z as u64,
+        u: 1033 - u64::from(z),
     }
 }
 
 // The parts of the pattern b of a finite number above 0.
 fn unpack(b: u64) -> Parts
-    requires { (0 < b) × (b < 0x7ff0_0000_0000_0000) }
+    requires { (0 < b) × (b < INFINITY_WORD) }
     ensures { Unpacked binary64 1022 b (significand result.m) result.u }
 {
     let e = b / 0x10_0000_0000_0000;
@@ -46,6 +49,7 @@ fn unpack(b: u64) -> Parts
 }
 
 // The number n * 2^j / 2^1074, n of 53 digits.
+#[tactic(auto, using(crate::proofs::Fields::pack_value, float::proofs::Bits::below_no_nan))]
 fn pack(n: u64, j: u64) -> f64
     requires { (2 ^ 52 ≤ n) × (n < 2 ^ 53) × (j ≤ 1533) }
     ensures { HasValue result false (n * 2 ^ j) (2 ^ 1074) }
@@ -55,7 +59,7 @@ fn pack(n: u64, j: u64) -> f64
 
 // The root of the finite number above 0 that has the pattern b.
 fn positive(b: u64) -> f64
-    requires { (0 < b) × (b < 0x7ff0_0000_0000_0000) }
+    requires { (0 < b) × (b < INFINITY_WORD) }
     ensures { Nearest binary64 (of_bits binary64 b) result }
 {
     let p = unpack(b);
@@ -67,13 +71,13 @@ pub fn sqrt(x: f64) -> f64
     ensures { SquareRoot binary64 x result }
 {
     if 0.0 < x {
-        let b = f64::to_bits(x);
-        if b < 0x7ff0_0000_0000_0000 {
+        let b = x.to_bits();
+        if b < INFINITY_WORD {
             return positive(b);
         }
         return x;
     }
-    if x == 0.0 { x } else { 0.0 / 0.0 }
+    if x == 0.0 { x } else { f64::NAN }
 }
 
 // The root on bit patterns, where the NaN is 0x7ff8000000000000 on every machine.

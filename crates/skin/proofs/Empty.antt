@@ -12,14 +12,13 @@ use Rattle.float.proofs.Bits.{zero_is}
 use Rattle.float.proofs.Scan.{every_same}
 use Rattle.refusal.specs.Refusal.{accepted}
 use Rattle.skin.specs.Sums.{Kernel, energy_of, gradient_of}
-use Rattle.skin.specs.Skin.{bad_length_of, bad_sum_of, IsSkinOver}
-use Rattle.skin.specs.declared.Skin.{Skin}
+use Rattle.skin.specs.Skin.{SkinGiven, bad_length_of, bad_sum_of, IsSkinOver}
 use Rattle.skin.proofs.SkinAnswer.{numbers_exactly, accepted_sums}
 
 zero_finite : (f : Format) → finite (ops f).zero ≡ true
 zero_finite f = rw (zero_is f)
 
-module _ (f : Format) (answer : Kernel) (ini def : ℕ) (before : List Float) {r : Skin} {after : List Float} (is : IsSkinOver f answer ini def [] before r after) where
+module _ (f : Format) (answer : Kernel) (ini def : ℕ) (before : List Float) {r : SkinGiven} {after : List Float} (is : IsSkinOver f answer ini def [] before r after) where
   sums_finite : bad_sum_of (energy_of f answer []) (gradient_of f answer [] (length before)) ≡ false
   unfolding bad_sum_of energy_of gradient_of fold_threes
   sums_finite = rw (zero_finite f, every_same finite (length before) (ops f).zero (zero_finite f))

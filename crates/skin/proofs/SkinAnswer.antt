@@ -1,6 +1,6 @@
 -- What a call over a list of triangles answers, in the scope's words, whatever the kernel is: one answer fits; each number is given, and for which place, exactly where its cause comes
 -- first; and what the energy and the buffer are after each. `IsSkin` is the instance of StVK, whose numbers are above 2. And what is known of the lengths where they are right.
-use mathlib.Core.Path.{◌≡◌, refl}
+use mathlib.Core.Path.{◌≡◌, refl, ap}
 use mathlib.Core.Bool.{false, not, cond, ◌||◌}
 use mathlib.Core.List.{List}
 use mathlib.Core.Logic.{◌↔◌}
@@ -10,6 +10,7 @@ use lib.Dec.{eqb}
 use lib.Ieee.{Float, Format}
 use lib.ListN.{length, get_or}
 use borrow.Author.Tests.{eqb-true, ne_eqb, le-leb, lt-leb, not-false}
+use Rattle.std.specs.Prelude.{Result, Ok, Err}
 use Rattle.float.specs.Lists.{cleared, every}
 use Rattle.float.specs.Ops.{ops}
 use Rattle.float.proofs.Fold.{map_length, map_at}
@@ -19,6 +20,7 @@ use Rattle.refusal.specs.Refusal.{accepted, bad_name, Row, Cause}
 use Rattle.refusal.specs.Answers as answers
 use Rattle.refusal.specs.Panel as panel
 use Rattle.refusal.specs.Listed.{ListedExactly}
+use Rattle.refusal.proofs.Numbered.{refuses, refusal_once}
 use Rattle.refusal.proofs.Panel as panels
 use Rattle.refusal.proofs.KernelNumber.{kernel_above}
 use Rattle.refusal.proofs.Ladder.{first_above}
@@ -28,9 +30,9 @@ use Rattle.refusal.proofs.ListedNumber.{listed_exactly, early_exactly}
 use Rattle.material.specs.declared.Material.{Material}
 use Rattle.material.specs.declared.Stiffness.{Stiffness}
 use Rattle.stvk_tri3.specs.Stvk.{stvk_of}
+use Rattle.skin.specs.declared.Refused.{Refused}
 use Rattle.skin.specs.Sums.{Kernel, numbers_of, energy_of, gradient_of}
-use Rattle.skin.specs.Skin.{bad_length_of, early_of, late_of, keeps, skin_of, answer_of, IsSkinOver, IsSkin}
-use Rattle.skin.specs.declared.Skin.{Skin}
+use Rattle.skin.specs.Skin.{SkinGiven, skin_given, bad_length_of, early_of, late_of, keeps, skin_of, answer_of, IsSkinOver, IsSkin}
 
 -- a number that an answer is refused with is none of lengths and names
 abbrev pub Above : Kernel → Type 0
@@ -41,9 +43,23 @@ unfolding answer_of stvk_of answers.energy_of
 stvk_above f vtx2ini vtx2def stiffness i0 i1 i2 = kernel_above _
 
 -- no second answer fits
-pub unique : (f : Format) (vtx2ini vtx2def : List Float) (tri2vtx : List ℕ) (m : Material) (before : List Float) {r q : Skin} {after left : List Float}
+pub unique : (f : Format) (vtx2ini vtx2def : List Float) (tri2vtx : List ℕ) (m : Material) (before : List Float) {r q : SkinGiven} {after left : List Float}
     → IsSkin f vtx2ini vtx2def tri2vtx m before r after → IsSkin f vtx2ini vtx2def tri2vtx m before q left → (r ≡ q) × (after ≡ left)
 unique f vtx2ini vtx2def tri2vtx m before a b = let e = only a.0 b.0 in (e, only a.1 (rw e b.1))
+
+-- nor does a second result
+given_once : (f : Format) (r q : Result Float Refused) → skin_given f r ≡ skin_given f q → r ≡ q
+given_once f (Ok a) (Ok b) e = ap (λ (g : SkinGiven). Ok g.w) e
+given_once f (Ok a) (Err q) e = absurd (omega (arith, refuses q.refusal, ap (λ (g : SkinGiven). g.number) e))
+given_once f (Err r) (Ok b) e = absurd (omega (arith, refuses r.refusal, ap (λ (g : SkinGiven). g.number) e))
+given_once f (Err r) (Err q) e =
+    let n = refusal_once r.refusal q.refusal (ap (λ (g : SkinGiven). g.number) e) in
+    let k = ap (λ (g : SkinGiven). g.place) e in
+    ap Err (rw (n, k))
+
+pub unique_result : (f : Format) (vtx2ini vtx2def : List Float) (tri2vtx : List ℕ) (m : Material) (before : List Float) {r q : Result Float Refused} {after left : List Float}
+    → IsSkin f vtx2ini vtx2def tri2vtx m before (skin_given f r) after → IsSkin f vtx2ini vtx2def tri2vtx m before (skin_given f q) left → (r ≡ q) × (after ≡ left)
+unique_result f vtx2ini vtx2def tri2vtx m before a b = let is = unique f vtx2ini vtx2def tri2vtx m before a b in (given_once f _ _ is.0, is.1)
 
 module _ (answer : Kernel) (tri2vtx : List ℕ) where
   -- the number of triangle k
@@ -72,7 +88,7 @@ module _ (f : Format) (answer : Kernel) (ini def : ℕ) (tri2vtx : List ℕ) (be
   abbrev pub late : List Row
   late = late_of energy gradient
 
-  module _ {r : Skin} {after : List Float} (is : IsSkinOver f answer ini def tri2vtx before r after) where
+  module _ {r : SkinGiven} {after : List Float} (is : IsSkinOver f answer ini def tri2vtx before r after) where
     -- THE theorem of the number and the place
     pub numbers_exactly : ListedExactly r.number r.place early numbers late
     unfolding skin_of every

@@ -18,12 +18,11 @@ use Rattle.material.specs.declared.Material.{Material}
 use Rattle.material.specs.declared.Stiffness.{Stiffness}
 use Rattle.stvk_tri3.specs.Stvk.{tests_of, stvk_of}
 use Rattle.skin.specs.Sums.{Kernel, numbers_of}
-use Rattle.skin.specs.Skin.{answer_of, IsSkin, FirstBad}
-use Rattle.skin.specs.declared.Skin.{Skin}
+use Rattle.skin.specs.Skin.{SkinGiven, answer_of, IsSkin, FirstBad}
 use Rattle.skin.proofs.SkinAnswer.{unique, early, late, numbers_exactly}
 
 -- density and thickness are not looked at: whatever they are, NaNs too, the answer is one
-pub looked_at : (f : Format) (vtx2ini vtx2def : List Float) (tri2vtx : List ℕ) (m n : Material) (before : List Float) → m.stiffness ≡ n.stiffness → {r q : Skin} {after left : List Float}
+pub looked_at : (f : Format) (vtx2ini vtx2def : List Float) (tri2vtx : List ℕ) (m n : Material) (before : List Float) → m.stiffness ≡ n.stiffness → {r q : SkinGiven} {after left : List Float}
     → IsSkin f vtx2ini vtx2def tri2vtx m before r after → IsSkin f vtx2ini vtx2def tri2vtx n before q left → (r ≡ q) × (after ≡ left)
 looked_at f vtx2ini vtx2def tri2vtx m n before e a b = unique f vtx2ini vtx2def tri2vtx m before a (rw e b)
 
@@ -58,7 +57,7 @@ first_seven f vtx2ini vtx2def stiffness (x ∷ y ∷ []) = ((λ e. absurd (omega
 first_seven f vtx2ini vtx2def stiffness (x ∷ []) = ((λ e. absurd (omega (arith, e))), λ h. absurd (omega (arith, h.0)))
 first_seven f vtx2ini vtx2def stiffness [] = ((λ e. absurd (omega (arith, e))), λ h. absurd (omega (arith, h.0)))
 
-module _ (f : Format) (vtx2ini vtx2def : List Float) (tri2vtx : List ℕ) (m : Material) (before : List Float) {r : Skin} {after : List Float} (is : IsSkin f vtx2ini vtx2def tri2vtx m before r after) where
+module _ (f : Format) (vtx2ini vtx2def : List Float) (tri2vtx : List ℕ) (m : Material) (before : List Float) {r : SkinGiven} {after : List Float} (is : IsSkin f vtx2ini vtx2def tri2vtx m before r after) where
   abbrev answer : Kernel
   answer = answer_of f vtx2ini vtx2def m.stiffness
 

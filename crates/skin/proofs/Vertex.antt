@@ -14,11 +14,10 @@ use Rattle.places.specs.Places.{component}
 use Rattle.places.specs.Vertex.{given_to}
 use Rattle.places.proofs.Vertex.{added_holds, unnamed}
 use Rattle.skin.specs.Sums.{Kernel, part_of, add_energy, add_gradient, energy_of, gradient_of}
-use Rattle.skin.specs.Skin.{IsSkinOver}
-use Rattle.skin.specs.declared.Skin.{Skin}
+use Rattle.skin.specs.Skin.{SkinGiven, IsSkinOver}
 use Rattle.skin.proofs.SkinAnswer.{numbers_exactly, accepted_sums, sized}
 
-module _ (f : Format) (answer : Kernel) (ini def : ℕ) (tri2vtx : List ℕ) (before : List Float) {r : Skin} {after : List Float}
+module _ (f : Format) (answer : Kernel) (ini def : ℕ) (tri2vtx : List ℕ) (before : List Float) {r : SkinGiven} {after : List Float}
     (is : IsSkinOver f answer ini def tri2vtx before r after) (e : r.number ≡ accepted) where
   -- THE theorem of the total
   pub energy_holds : r.w ≡ total f (λ e. e.w) (map_threes answer tri2vtx)

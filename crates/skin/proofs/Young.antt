@@ -9,8 +9,7 @@ use lib.ListN.{length}
 use borrow.Author.Tests.{ne_eqb}
 use Rattle.float.specs.Lists.{map_threes, fold_threes}
 use Rattle.refusal.specs.Refusal.{accepted, bad_stiffness, Row, first_of}
-use Rattle.refusal.specs.Answers.{taken_of}
-use Rattle.refusal.specs.declared.Energy.{Energy}
+use Rattle.refusal.specs.Answers.{EnergyGiven, taken_of}
 use Rattle.refusal.specs.Left.{left_of}
 use Rattle.refusal.specs.Listed.{first_refusal, first_place, listed_number, listed_place}
 use Rattle.refusal.proofs.ListedNumber.{refuses, by_early, by_answer}
@@ -21,9 +20,8 @@ use Rattle.places.specs.Space.{corners_at}
 use Rattle.stvk_tri3.specs.Stvk.{divisor_is_zero, numbers_of as stvk_numbers}
 use Rattle.stvk_tri3.proofs.EnergyAnswer.{young_stvk, stvk_taken}
 use Rattle.skin.specs.Sums.{Kernel, numbers_of, energy_of, gradient_of}
-use Rattle.skin.specs.Skin.{early_of, late_of, skin_of, answer_of, IsSkinOver, IsSkin}
+use Rattle.skin.specs.Skin.{SkinGiven, early_of, late_of, skin_of, answer_of, IsSkinOver, IsSkin}
 use Rattle.skin.specs.Parts.{refused_of}
-use Rattle.skin.specs.declared.Skin.{Skin}
 use Rattle.skin.proofs.Stiffness.{seven_bad, taken_good}
 
 -- a first triangle that is refused decides: the answer is what lengths and names give, or else that triangle's number
@@ -47,8 +45,8 @@ module _ (f : Format) (ini def x y z : ℕ) (l : List ℕ) (before : List Float)
   unfolding map_threes first_refusal first_place
   by_first K clear some = let n = ne_eqb _ accepted some in given K _ some (rw n at (by_answer first (numbers_of K tri2vtx) (late_rows K) clear (rw n some)))
 
-  number_given : (K : Kernel) → first_of first ≡ accepted → ((K x y z).number ≡ accepted → ⊥) → {r : Skin} → r ≡ skin_of f K ini def tri2vtx (length before) → r.number ≡ (K x y z).number
-  number_given K clear some is = ap (λ (s : Skin). s.number) (is ∙ by_first K clear some)
+  number_given : (K : Kernel) → first_of first ≡ accepted → ((K x y z).number ≡ accepted → ⊥) → {r : SkinGiven} → r ≡ skin_of f K ini def tri2vtx (length before) → r.number ≡ (K x y z).number
+  number_given K clear some is = ap (λ (s : SkinGiven). s.number) (is ∙ by_first K clear some)
 
   -- so two kernels with one number there have one answer
   same : (A B : Kernel) → ((A x y z).number ≡ accepted → ⊥) → (first_of first ≡ accepted → (B x y z).number ≡ (A x y z).number)
@@ -81,12 +79,12 @@ module _ (f : Format) (vtx2ini vtx2def : List Float) (e v : Float) (h : is_finit
   taken good =
       fun_ext (λ i0. fun_ext (λ i1. fun_ext (λ i2. one i0 i1 i2 (λ seven. true≢false (sym (seven_bad f vtx2ini vtx2def (Young e v) i0 i1 i2 seven) ∙ good)))))
 
-  refused : is_bad_of f (Young e v) ≡ true → (ini def : ℕ) (tri2vtx : List ℕ) (before : List Float) {r : Skin} {after : List Float}
+  refused : is_bad_of f (Young e v) ≡ true → (ini def : ℕ) (tri2vtx : List ℕ) (before : List Float) {r : SkinGiven} {after : List Float}
       → IsSkinOver f young ini def tri2vtx before r after → (r.number ≡ bad_stiffness → ⊥) → IsSkinOver f lame ini def tri2vtx before r after
   unfolding map_threes fold_threes energy_of gradient_of skin_of left_of
   refused bad ini def (x ∷ y ∷ z ∷ l) before {r} is other =
       let some : (young x y z).number ≡ accepted → ⊥ = λ a. true≢false (sym bad ∙ taken_good f vtx2ini vtx2def (Young e v) x y z a) in
-      let s = same f ini def x y z l before young lame some (λ clear. ap (λ (a : Energy). a.number)
+      let s = same f ini def x y z l before young lame some (λ clear. ap (λ (a : EnergyGiven). a.number)
       (sym (one x y z (λ seven. other (number_given f ini def x y z l before young clear some is.0 ∙ seven))))) in
       (is.0 ∙ sym s.1, is.1 ∙ rw (ne_eqb r.number accepted (rw is.0 s.0)))
   refused bad ini def (x ∷ y ∷ []) before is other = is
@@ -94,7 +92,7 @@ module _ (f : Format) (vtx2ini vtx2def : List Float) (e v : Float) (h : is_finit
   refused bad ini def [] before is other = is
 
   -- THE theorem of Young's modulus and Poisson's ratio: where 7 is not given and the computed pair is finite, the answer is that for the pair
-  pub young_is_lame : (density thickness : Float) (tri2vtx : List ℕ) (before : List Float) {r : Skin} {after : List Float}
+  pub young_is_lame : (density thickness : Float) (tri2vtx : List ℕ) (before : List Float) {r : SkinGiven} {after : List Float}
       → IsSkin f vtx2ini vtx2def tri2vtx (young_material density thickness e v) before r after → (r.number ≡ bad_stiffness → ⊥)
       → let pair = lame_of f (Young e v) in IsSkin f vtx2ini vtx2def tri2vtx (lame_material density thickness pair.lambda pair.myu) before r after
   young_is_lame density thickness tri2vtx before {r} {after} is other = split (is_bad_of f (Young e v)) refl

@@ -1,5 +1,5 @@
 -- What `wdw` answers (01-scope 5.8, 2.5): the sums of a kernel's answers, or the first thing in order that is refused, and where. First for any kernel; `wdw` asks StVK.
-use Rattle.std.specs.Prelude.{◌≡◌, Bool, true, cond, not, ◌&&◌, ◌||◌, List, [], ◌∷◌, ℕ, ◌/◌, ◌<◌, eqb, leb, Float, length, get_or}
+use Rattle.std.specs.Prelude.{◌≡◌, Bool, true, cond, not, ◌&&◌, ◌||◌, List, [], ◌∷◌, ℕ, ◌/◌, ◌<◌, eqb, leb, Float, length, get_or, Result, Ok, Err}
 use Rattle.std.specs.Float.{Format}
 use Rattle.std.specs.Float.Ieee.Scale.{finite}
 use Rattle.float.specs.Lists.{all_finite}
@@ -16,7 +16,19 @@ use Rattle.corners.specs.Space.{is_finite_of as corners_finite}
 use Rattle.places.specs.Space.{corners_at}
 use Rattle.stvk_tri3.specs.Stvk.{stvk_of}
 use Rattle.skin.specs.Sums.{Kernel, numbers_of, energy_of, gradient_of}
-use Rattle.skin.specs.declared.Skin.{Skin}
+use Rattle.refusal.specs.Numbers.{refusal_number}
+use Rattle.skin.specs.declared.Refused.{Refused}
+
+-- what is given: the number, the place and the energy
+pub record SkinGiven : Type 0 where
+  pub number : ℕ
+  pub place : ℕ
+  pub w : Float
+
+-- for an answer: the energy with 0 and no place; after a refusal its number and its place, and +0
+abbrev pub skin_given : (f : Format) → Result Float Refused → SkinGiven
+skin_given f (Ok w) = record { number = accepted; place = 0; w = w }
+skin_given f (Err refused) = record { number = refusal_number refused.refusal; place = refused.place; w = (ops f).zero }
 
 -- from the lengths of the lists: a limit is passed; or points at rest, deformed points and gradient differ in length; or 3 does not divide it
 unfoldable pub bad_length_of : (ini def names places : ℕ) → Bool
@@ -41,7 +53,7 @@ module _ (f : Format) (answer : Kernel) (ini def : ℕ) (tri2vtx : List ℕ) whe
   open ops f use {zero}
 
   -- the energy is +0 after every refusal
-  unfoldable pub skin_of : (places : ℕ) → Skin
+  unfoldable pub skin_of : (places : ℕ) → SkinGiven
   skin_of places =
       let early = early_of ini def tri2vtx places in
       let numbers = numbers_of answer tri2vtx in
@@ -50,7 +62,7 @@ module _ (f : Format) (answer : Kernel) (ini def : ℕ) (tri2vtx : List ℕ) whe
       record { number = number; place = listed_place early numbers late; w = cond (eqb number accepted) (energy_of f answer tri2vtx) zero }
 
   -- THE statement of such a call: the buffer was `before` and is `after`
-  abbrev pub IsSkinOver : (before : List Float) (r : Skin) (after : List Float) → Type 0
+  abbrev pub IsSkinOver : (before : List Float) (r : SkinGiven) (after : List Float) → Type 0
   IsSkinOver before r after = (r ≡ skin_of (length before)) × (after ≡ left_of f keeps r.number (gradient_of f answer tri2vtx (length before)) before)
 
 module _ (f : Format) where
@@ -59,7 +71,7 @@ module _ (f : Format) where
   answer_of vtx2ini vtx2def stiffness i0 i1 i2 = stvk_of f (corners_at vtx2ini i0 i1 i2) (corners_at vtx2def i0 i1 i2) stiffness
 
   -- THE statement of `wdw`: of the material the stiffness alone enters
-  abbrev pub IsSkin : (vtx2ini vtx2def : List Float) (tri2vtx : List ℕ) (material : Material) (before : List Float) (r : Skin) (after : List Float) → Type 0
+  abbrev pub IsSkin : (vtx2ini vtx2def : List Float) (tri2vtx : List ℕ) (material : Material) (before : List Float) (r : SkinGiven) (after : List Float) → Type 0
   IsSkin vtx2ini vtx2def tri2vtx material before r after =
       IsSkinOver f (answer_of vtx2ini vtx2def material.stiffness) (length vtx2ini) (length vtx2def) tri2vtx before r after
 

@@ -1,16 +1,16 @@
 -- What a kernel's answers come to over a list of triangles (01-scope 5.8), whatever the kernel is: their numbers, and their energies and gradients, added from +0 in the list's order.
+use Rattle.refusal.specs.Answers.{EnergyGiven}
 use Rattle.std.specs.Prelude.{List, ℕ, Float, replicate}
 use Rattle.std.specs.Float.{Format}
 use Rattle.float.specs.Lists.{fold_threes, map_threes}
 use Rattle.float.specs.Ops.{ops}
-use Rattle.refusal.specs.declared.Energy.{Energy}
 use Rattle.vec3.specs.declared.V3.{V3}
 use Rattle.places.specs.Places.{add_triangle}
 use Rattle.places.specs.Space.{point_at}
 
 -- what a kernel answers for the triangle of three names
 abbrev pub Kernel : Type 0
-Kernel = (i0 i1 i2 : ℕ) → Energy
+Kernel = (i0 i1 i2 : ℕ) → EnergyGiven
 
 -- what the triangle's gradient gives the vertex at its corner c
 abbrev pub part_of : (answer : Kernel) (c i0 i1 i2 : ℕ) → V3

@@ -1,51 +1,42 @@
 // The StVK energy of a whole skin, with its gradient: what `stvk_tri3::wdwddw_` gives for each triangle, added in the list's order from +0.
 #![tactic(auto)]
 
-ghost use Rattle.std.specs.Prelude.{◌≡◌, ◌+◌, ◌*◌, ◌<◌, length};
+ghost use Rattle.std.specs.Prelude.{◌≡◌, [], ◌∷◌, ◌+◌, ◌*◌, ◌<◌, length};
 ghost use Rattle.std.specs.Float.{binary64};
 ghost use Rattle.refusal.specs.Refusal.{Clear};
+ghost use Rattle.refusal.specs.Answers.{energy_given};
 ghost use Rattle.corners.specs.Space.{corners_of};
-ghost use Rattle.places.specs.Places.{added_of};
+ghost use Rattle.places.specs.Places.{added_to};
 ghost use Rattle.places.specs.Space.{point_at, corners_at};
-ghost use Rattle.skin.specs.Skin.{bad_length_of, bad_sum_of, early_of, answer_of, IsSkin};
-ghost use Rattle.skin.specs.Parts.{refused_of};
+ghost use Rattle.skin.specs.Skin.{bad_length_of, bad_sum_of, early_of, answer_of, skin_given, IsSkin};
 
 use material::Material;
-use refusal::{ACCEPTED, BAD_ANSWER, BAD_LENGTH, BAD_NAME, Energy};
+use refusal::{Energy, Refusal};
 use vec3::V3;
 
-// The refusal number; where the triangle that was refused stands in the list, counted from 0, or how many there are where only a sum was, and 0 after 0, 1 and 2; the energy.
-#[derive(Drop)]
-pub struct Skin {
-    pub number: u32,
+// Why a skin is refused, and where: the place in the list of the triangle that is, counted from 0; how many triangles there are where only a sum is; 0 for lengths and names.
+#[derive(Clone, Copy, Debug, PartialEq, Eq)]
+pub struct Refused {
+    pub refusal: Refusal,
     pub place: usize,
-    pub w: f64,
 }
 
 // From the lists' lengths.
+#[tactic(auto, unfolding(crate::specs::Skin::bad_length_of))]
 fn bad_length(ini: usize, def: usize, names: usize, places: usize) -> bool
     ensures { result ≡ bad_length_of ini def names places }
 {
     refusal::bad_length(ini / 3, names, places) | (ini != places) | (def != places)
 }
 
+#[tactic(auto, unfolding(crate::specs::Skin::bad_sum_of))]
 fn bad_sum(w: f64, vtx2dw: &[f64]) -> bool
     ensures { result ≡ bad_sum_of w «vtx2dw».now }
 {
     !(float::is_finite(w) & lists::all_finite(vtx2dw))
 }
 
-fn refused(number: u32, place: usize) -> Skin
-    ensures { result ≡ refused_of binary64 number place }
-{
-    Skin {
-        number,
-        place,
-        w: 0.0,
-    }
-}
-
-// Point i, of a flat list of three numbers for each.
+// Point i, of a flat list of three numbers for each; private, as in `mitc_tri3` in the plane, since it asks that the point is there.
 fn point_at(xyz: &[f64], i: usize) -> V3
     requires { i * 3 + 2 < length xyz.now }
     ensures { result ≡ point_at xyz.now i }
@@ -57,6 +48,8 @@ fn point_at(xyz: &[f64], i: usize) -> V3
     }
 }
 
+// Takes three names, as its definition does: of one array, the clauses would have to take each from its place.
+#[tactic(auto, unfolding(places::specs::Space::corners_at))]
 fn corners_at(vtx2xyz: &[f64], i0: usize, i1: usize, i2: usize) -> [[f64; 3]; 3]
     requires i0_in_bounds { i0 * 3 + 2 < length «vtx2xyz».now }
     requires i1_in_bounds { i1 * 3 + 2 < length «vtx2xyz».now }
@@ -70,6 +63,7 @@ fn corners_at(vtx2xyz: &[f64], i0: usize, i1: usize, i2: usize) -> [[f64; 3]; 3]
 }
 
 // The single kernel's answer for one triangle.
+#[tactic(auto, unfolding(crate::specs::Skin::answer_of))]
 fn answer(
     vtx2ini: &[f64],
     vtx2def: &[f64],
@@ -77,12 +71,12 @@ fn answer(
     i0: usize,
     i1: usize,
     i2: usize,
-) -> Energy
+) -> Result<Energy, Refusal>
     requires vtx2def_len { length «vtx2def».now ≡ length «vtx2ini».now }
     requires i0_in_bounds { i0 * 3 + 2 < length «vtx2ini».now }
     requires i1_in_bounds { i1 * 3 + 2 < length «vtx2ini».now }
     requires i2_in_bounds { i2 * 3 + 2 < length «vtx2ini».now }
-    ensures { result ≡ answer_of binary64 «vtx2ini».now «vtx2def».now material.stiffness i0 i1 i2 }
+    ensures { energy_given binary64 result ≡ answer_of binary64 «vtx2ini».now «vtx2def».now material.stiffness i0 i1 i2 }
 {
     let p0 = corners_at(vtx2ini, i0, i1, i2);
     let p1 = corners_at(vtx2def, i0, i1, i2);
@@ -90,13 +84,13 @@ fn answer(
 }
 
 // A triangle's gradient, to its three names.
-fn add_gradient(vtx2dw: &mut [f64], i0: usize, i1: usize, i2: usize, dw: [f64; 9])
-    ensures { «vtx2dw».new ≡ added_of binary64 «vtx2dw».old i0 i1 i2 (point_at dw 0) (point_at dw 1) (point_at dw 2) }
+fn add_gradient(vtx2dw: &mut [f64], names: [usize; 3], dw: [f64; 9])
+    ensures { «vtx2dw».new ≡ added_to binary64 «vtx2dw».old names (point_at dw 0 ∷ point_at dw 1 ∷ point_at dw 2 ∷ []) }
 {
     let x0 = point_at(&dw, 0);
     let x1 = point_at(&dw, 1);
     let x2 = point_at(&dw, 2);
-    places::add_triangle(vtx2dw, i0, i1, i2, x0, x1, x2);
+    places::add_triangle(vtx2dw, names, [x0, x1, x2]);
 }
 
 // What is left to do where lengths and names are right: adds the triangles in the list's order, up to the first that is refused.
@@ -106,36 +100,33 @@ fn add_all(
     tri2vtx: &[usize],
     material: Material,
     vtx2dw: &mut [f64],
-) -> Skin
+) -> Result<f64, Refused>
     requires { Clear (early_of (length «vtx2ini».now) (length «vtx2def».now) «tri2vtx».now (length «vtx2dw».old)) }
-    ensures { IsSkin binary64 «vtx2ini».now «vtx2def».now «tri2vtx».now material «vtx2dw».old result «vtx2dw».new }
+    ensures { IsSkin binary64 «vtx2ini».now «vtx2def».now «tri2vtx».now material «vtx2dw».old (skin_given binary64 result) «vtx2dw».new }
 {
     lists::clear(vtx2dw);
     let mut w = 0.0;
-    let mut i = 0;
-    while i < tri2vtx.len() {
-        let i0 = tri2vtx[i];
-        let i1 = tri2vtx[i + 1];
-        let i2 = tri2vtx[i + 2];
-        let e = answer(vtx2ini, vtx2def, material, i0, i1, i2);
-        if e.number != ACCEPTED {
-            lists::clear(vtx2dw);
-            return refused(e.number, i / 3);
+    let (triangles, _) = tri2vtx.as_chunks::<3>();
+    for (place, &[i0, i1, i2]) in triangles.iter().enumerate() {
+        match answer(vtx2ini, vtx2def, material, i0, i1, i2) {
+            Ok(e) => {
+                w += e.w;
+                add_gradient(vtx2dw, [i0, i1, i2], e.dw);
+            }
+            Err(refusal) => {
+                lists::clear(vtx2dw);
+                return Err(Refused { refusal, place });
+            }
         }
-        w += e.w;
-        let dw = e.dw;
-        add_gradient(vtx2dw, i0, i1, i2, dw);
-        i += 3;
     }
     if bad_sum(w, vtx2dw) {
         lists::clear(vtx2dw);
-        return refused(BAD_ANSWER, i / 3);
+        return Err(Refused {
+            refusal: Refusal::BadAnswer,
+            place: triangles.len(),
+        });
     }
-    Skin {
-        number: ACCEPTED,
-        place: 0,
-        w,
-    }
+    Ok(w)
 }
 
 // The energy of the skin that has the points vtx2ini at rest and vtx2def deformed, and its gradient by the deformed points into vtx2dw, three numbers for each point in all
@@ -146,14 +137,20 @@ pub fn wdw(
     tri2vtx: &[usize],
     material: Material,
     vtx2dw: &mut [f64],
-) -> Skin
-    ensures { IsSkin binary64 «vtx2ini».now «vtx2def».now «tri2vtx».now material «vtx2dw».old result «vtx2dw».new }
+) -> Result<f64, Refused>
+    ensures { IsSkin binary64 «vtx2ini».now «vtx2def».now «tri2vtx».now material «vtx2dw».old (skin_given binary64 result) «vtx2dw».new }
 {
     if bad_length(vtx2ini.len(), vtx2def.len(), tri2vtx.len(), vtx2dw.len()) {
-        return refused(BAD_LENGTH, 0);
+        return Err(Refused {
+            refusal: Refusal::BadLength,
+            place: 0,
+        });
     }
     if !refusal::names_below(tri2vtx, vtx2ini.len() / 3) {
-        return refused(BAD_NAME, 0);
+        return Err(Refused {
+            refusal: Refusal::BadName,
+            place: 0,
+        });
     }
     add_all(vtx2ini, vtx2def, tri2vtx, material, vtx2dw)
 }

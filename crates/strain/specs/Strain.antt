@@ -6,8 +6,8 @@ use Rattle.std.specs.Float.Ieee.{neg}
 use Rattle.float.specs.Ops.{ops}
 use Rattle.del_geo_core.specs.CurveLinearCoords.{contravariant_of}
 use Rattle.vec3.specs.Vec3.{dot_of, cross_of, norm_of, over_of, unit_of}
-use Rattle.del_geo_core.specs.declared.tri2.Tri2.{Tri2}
-use Rattle.del_geo_core.specs.declared.tri3.Tri3.{Tri3}
+use Rattle.del_geo_core.specs.Tri2.{Tri2}
+use Rattle.del_geo_core.specs.Tri3.{Tri3}
 use Rattle.vec3.specs.declared.V3.{V3}
 use Rattle.edges.specs.Edges.{plane_of, space_of, glstrain_of}
 use Rattle.edges.specs.declared.Gd.{Gd}

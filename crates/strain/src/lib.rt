@@ -35,6 +35,7 @@ pub struct Values {
     pub dw: [f64; 27],
 }
 
+#[tactic(auto, unfolding(crate::specs::Strain::rest_of))]
 pub fn rest_of(ini: Tri2) -> Rest
     ensures { result ≡ rest_of binary64 ini }
 {
@@ -49,6 +50,7 @@ pub fn rest_of(ini: Tri2) -> Rest
 }
 
 // As in a book, not in the source.
+#[tactic(auto, unfolding(crate::specs::Strain::rest_of_green_lagrange))]
 pub fn rest_of_green_lagrange(ini: Tri2) -> Rest
     ensures { result ≡ rest_of_green_lagrange binary64 ini }
 {
@@ -60,6 +62,7 @@ pub fn rest_of_green_lagrange(ini: Tri2) -> Rest
     Rest { gd0, gd0_z, gu0 }
 }
 
+#[tactic(auto, unfolding(crate::specs::Strain::gugu0_of))]
 fn gugu0(gu0: Gu) -> GuGu
     ensures { result ≡ gugu0_of binary64 gu0 }
 {
@@ -81,6 +84,7 @@ fn gugu0(gu0: Gu) -> GuGu
     GuGu { xx, yy, xy }
 }
 
+#[tactic(auto, unfolding(crate::specs::Strain::w_of))]
 fn w(glstrain: V3, gugu0: GuGu) -> [f64; 3]
     ensures { result ≡ w_of binary64 glstrain gugu0 }
 {
@@ -91,6 +95,7 @@ fn w(glstrain: V3, gugu0: GuGu) -> [f64; 3]
     ]
 }
 
+#[tactic(auto, unfolding(crate::specs::Strain::hoge_of))]
 fn hoge(gd1: Gd, a: f64, b: f64) -> V3
     ensures { result ≡ hoge_of binary64 gd1 a b }
 {
@@ -102,6 +107,7 @@ fn hoge(gd1: Gd, a: f64, b: f64) -> V3
 }
 
 // dw[k] by the three corners, where g is gugu0.xx, gugu0.yy or gugu0.xy.
+#[tactic(auto, unfolding(crate::specs::Strain::dw_k_of))]
 fn dw_k(gd1: Gd, g: V3) -> Tri3
     ensures { result ≡ dw_k_of binary64 gd1 g }
 {
@@ -111,36 +117,37 @@ fn dw_k(gd1: Gd, g: V3) -> Tri3
     Tri3 { p0, p1, p2 }
 }
 
-// Flat, from dw[0], dw[1] and dw[2].
+// Flat, from dw[0], dw[1] and dw[2]. One list: three of nine, put together by `copy_from_slice`, take a tenth more instructions for a strain.
+#[inline(always)]
+#[tactic(auto, unfolding(crate::specs::Strain::dw_of))]
 fn dw(xx: Tri3, yy: Tri3, xy: Tri3) -> [f64; 27]
     ensures { result ≡ dw_of xx yy xy }
 {
+    let Tri3 {
+        p0: a,
+        p1: b,
+        p2: c,
+    } = xx;
+    let Tri3 {
+        p0: d,
+        p1: e,
+        p2: f,
+    } = yy;
+    let Tri3 {
+        p0: g,
+        p1: h,
+        p2: i,
+    } = xy;
     [
-        xx.p0.x, xx.p0.y, xx.p0.z, xx.p1.x, xx.p1.y, xx.p1.z, xx.p2.x, xx.p2.y, xx.p2.z, yy.p0.x, yy
-            .p0
-            .y, yy.p0.z, yy.p1.x, yy.p1.y, yy.p1.z, yy.p2.x, yy.p2.y, yy.p2.z, xy.p0.x, xy.p0.y, xy
-            .p0
-            .z, xy.p1.x, xy.p1.y, xy.p1.z, xy.p2.x, xy.p2.y, xy.p2.z,
+        a.x, a.y, a.z, b.x, b.y, b.z, c.x, c.y, c.z, d.x, d.y, d.z, e.x, e.y, e.z, f.x, f.y, f.z,
+        g.x, g.y, g.z, h.x, h.y, h.z, i.x, i.y, i.z,
     ]
 }
 
+// Inlined with `dw`, since it returns thirty numbers: called from two places, each would else take some 90 instructions more.
+#[inline(always)]
+#[tactic(auto, unfolding(crate::specs::Strain::values_of))]
 pub fn values_of(rest: Rest, def: Tri3) -> Values
-    ensures { result ≡ values_of binary64 rest def }
-{
-    let gd1 = edges::space(def);
-    let glstrain = edges::glstrain(rest.gd0, gd1);
-    let gugu0 = gugu0(rest.gu0);
-    let w = w(glstrain, gugu0);
-    let dw = dw(
-        dw_k(gd1, gugu0.xx),
-        dw_k(gd1, gugu0.yy),
-        dw_k(gd1, gugu0.xy),
-    );
-    Values { w, dw }
-}
-
-// The same, for the other strain: a function that is called at one place alone is inlined there, one that is called at two and returns thirty numbers is not.
-pub fn values_of_green_lagrange(rest: Rest, def: Tri3) -> Values
     ensures { result ≡ values_of binary64 rest def }
 {
     let gd1 = edges::space(def);

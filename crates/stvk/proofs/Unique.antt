@@ -3,7 +3,7 @@ use mathlib.Core.Path.{◌≡◌}
 use mathlib.Core.List.{List}
 use lib.Ieee.{Float, Format}
 use Rattle.float.proofs.Unique.{only}
-use Rattle.del_geo_core.specs.declared.tri3.Tri3.{Tri3}
+use Rattle.del_geo_core.specs.Tri3.{Tri3}
 use Rattle.stvk.specs.Stvk.{state_of, w_of, dw_of, ddw_of}
 use Rattle.stvk.specs.declared.State.{State}
 

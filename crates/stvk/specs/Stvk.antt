@@ -1,6 +1,6 @@
 -- The numbers of `wdwddw_` (01-scope 5.5): the source's expressions, in its order and under its names. An index 0, 1, 2 of the source is x, y, z here.
-use Rattle.std.specs.Prelude.{cond, List, [], ◌∷◌, ℕ, eqb, Float}
-use Rattle.std.specs.Float.{Format}
+use Rattle.std.specs.Prelude.{List, [], ◌∷◌, ℕ, Float, get_or}
+use Rattle.std.specs.Float.{Format, nan}
 use Rattle.std.specs.Float.Ieee.{neg}
 use Rattle.float.specs.Lists.{each, table}
 use Rattle.float.specs.Ops.{ops}
@@ -10,22 +10,21 @@ use Rattle.del_geo_core.specs.Tri3.{unit_normal_area_of}
 use Rattle.vec3.specs.Vec3.{dot_of}
 use Rattle.del_geo_core.specs.declared.mat3_row_major.Matrix3.{Matrix3}
 use Rattle.del_geo_core.specs.declared.tri2.V2.{V2}
-use Rattle.del_geo_core.specs.declared.tri3.Tri3.{Tri3}
+use Rattle.del_geo_core.specs.Tri3.{Tri3}
 use Rattle.vec3.specs.declared.V3.{V3}
 use Rattle.edges.specs.Edges as edges
 use Rattle.edges.specs.declared.Gd.{Gd}
 use Rattle.edges.specs.declared.Gu.{Gu}
-use Rattle.stvk.specs.declared.Pairs.{Pairs}
 use Rattle.stvk.specs.declared.Rest.{Rest}
 use Rattle.stvk.specs.declared.State.{State}
 
 -- one of three by its index
-unfoldable pub at_of : Pairs → (i : ℕ) → V2
-at_of pairs i = cond (eqb i 0) pairs.x (cond (eqb i 1) pairs.y pairs.z)
+unfoldable pub at_of : List V2 → (i : ℕ) → V2
+at_of pairs i = get_or pairs i (record { x = nan; y = nan })
 
 -- gd[0][idim] and gd[1][idim] for idim = 0, 1, 2
-unfoldable pub along_of : Gd → Pairs
-along_of gd = record { x = record { x = gd.x.x; y = gd.y.x }; y = record { x = gd.x.y; y = gd.y.y }; z = record { x = gd.x.z; y = gd.y.z } }
+unfoldable pub along_of : Gd → List V2
+along_of gd = record { x = gd.x.x; y = gd.y.x } ∷ record { x = gd.x.y; y = gd.y.y } ∷ record { x = gd.x.z; y = gd.y.z } ∷ []
 
 module _ (f : Format) where
   open ops f use {◌⊕◌, ◌⊗◌, zero, half, one, two}
@@ -84,8 +83,8 @@ module _ (f : Format) where
   w_of s = half ⊗ s.rest.area0 ⊗ dot_of f s.glstrain s.spkstress
 
   -- dNdr[0], dNdr[1] and dNdr[2]
-  unfoldable pub dndr_of : Pairs
-  dndr_of = record { x = record { x = neg one; y = neg one }; y = record { x = one; y = zero }; z = record { x = zero; y = one } }
+  unfoldable pub dndr_of : List V2
+  dndr_of = record { x = neg one; y = neg one } ∷ record { x = one; y = zero } ∷ record { x = zero; y = one } ∷ []
 
   -- dw[ino][idim]; gi is gd[0][idim] and gd[1][idim], ni is dNdr[ino], and gj, nj below are the same for jdim and jno
   unfoldable pub dw_at_of : (area0 : Float) (spkstress : V3) (gi ni : V2) → Float
@@ -121,11 +120,11 @@ module _ (f : Format) where
   dtmp1_of area0 spkstress ni nj = dw_at_of area0 spkstress ni nj
 
   -- dtmp0 * area0 for jdim = 0, 1, 2; g is gd[0][jdim] and gd[1][jdim] for each
-  unfoldable pub row_of : State → (g : Pairs) (gi ni nj : V2) → V3
+  unfoldable pub row_of : State → (g : List V2) (gi ni nj : V2) → V3
   row_of s g gi ni nj = record {
-    x = dtmp0_of s.tensor gi ni g.x nj ⊗ s.rest.area0;
-    y = dtmp0_of s.tensor gi ni g.y nj ⊗ s.rest.area0;
-    z = dtmp0_of s.tensor gi ni g.z nj ⊗ s.rest.area0;
+    x = dtmp0_of s.tensor gi ni (at_of g 0) nj ⊗ s.rest.area0;
+    y = dtmp0_of s.tensor gi ni (at_of g 1) nj ⊗ s.rest.area0;
+    z = dtmp0_of s.tensor gi ni (at_of g 2) nj ⊗ s.rest.area0;
   }
 
   -- a block of three rows; dtmp1 comes to its entries 0, 4 and 8
@@ -133,8 +132,9 @@ module _ (f : Format) where
   block_of x y z dtmp1 = x.x ⊕ dtmp1 ∷ x.y ∷ x.z ∷ y.x ∷ y.y ⊕ dtmp1 ∷ y.z ∷ z.x ∷ z.y ∷ z.z ⊕ dtmp1 ∷ []
 
   -- ddw[ino][jno]
-  abbrev pub ddw_at_of : State → (g : Pairs) (ni nj : V2) → List Float
-  ddw_at_of s g ni nj = block_of (row_of s g g.x ni nj) (row_of s g g.y ni nj) (row_of s g g.z ni nj) (dtmp1_of s.rest.area0 s.spkstress ni nj)
+  abbrev pub ddw_at_of : State → (g : List V2) (ni nj : V2) → List Float
+  ddw_at_of s g ni nj =
+      block_of (row_of s g (at_of g 0) ni nj) (row_of s g (at_of g 1) ni nj) (row_of s g (at_of g 2) ni nj) (dtmp1_of s.rest.area0 s.spkstress ni nj)
 
   unfoldable pub ddw_of : State → List Float
   ddw_of s = each 3 (λ ino. each 3 (λ jno. ddw_at_of s (along_of s.gd) (at_of dndr_of ino) (at_of dndr_of jno)))

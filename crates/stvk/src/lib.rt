@@ -1,13 +1,10 @@
 // The numbers of `wdwddw_` (stvk_tri3.rs): a triangle's StVK energy, its gradient and its Hessian. An index 0, 1, 2 of the source is x, y, z here.
 #![tactic(auto)]
 
-ghost use Rattle.std.specs.Prelude.{◌≡◌, ◌++◌};
+ghost use Rattle.std.specs.Prelude.{◌≡◌};
 ghost use Rattle.std.specs.Float.{binary64};
-ghost use Rattle.float.specs.Lists.{each};
-ghost use Rattle.del_geo_core.specs.declared.mat3_row_major.Matrix3.{Matrix3};
-ghost use Rattle.del_geo_core.specs.declared.tri2.V2.{V2};
-ghost use Rattle.stvk.specs.Stvk.{rest_of, elasticity_tensor_of, state_of, w_of, at_of, along_of, dndr_of, dw_at_of, dw_of, dtmp0_of, block_of, ddw_at_of, ddw_of};
-ghost use Rattle.stvk.specs.Parts.{terms_of, rows_of};
+ghost use Rattle.stvk.specs.Stvk.{rest_of, elasticity_tensor_of, state_of, w_of, along_of, dndr_of, dw_at_of, dw_of, block_of, ddw_of};
+ghost use Rattle.stvk.specs.Parts.{four_of, terms_of, sum_of, sums_of, rows_of, blocks_of};
 
 use del_geo_core::mat3_row_major::Matrix3;
 use del_geo_core::tri2::V2;
@@ -35,35 +32,7 @@ pub struct State {
     pub spkstress: V3,
 }
 
-// A pair for each of three indices.
-#[derive(Clone, Copy)]
-pub(crate) struct Pairs {
-    pub x: V2,
-    pub y: V2,
-    pub z: V2,
-}
-
-// The terms of dtmp0 in the source's order, each without its last factor: that alone depends on jno.
-#[derive(Clone, Copy)]
-pub(crate) struct Terms {
-    pub t0: f64,
-    pub t1: f64,
-    pub t2: f64,
-    pub t3: f64,
-    pub t4: f64,
-    pub t5: f64,
-    pub t6: f64,
-    pub t7: f64,
-    pub t8: f64,
-    pub t9: f64,
-    pub t10: f64,
-    pub t11: f64,
-    pub t12: f64,
-    pub t13: f64,
-    pub t14: f64,
-    pub t15: f64,
-}
-
+#[tactic(auto, unfolding(crate::specs::Stvk::rest_of))]
 fn rest_of(p0: Tri3) -> Rest
     ensures { result ≡ rest_of binary64 p0 }
 {
@@ -81,6 +50,7 @@ fn rest_of(p0: Tri3) -> Rest
     }
 }
 
+#[tactic(auto, unfolding(crate::specs::Stvk::elasticity_tensor_of))]
 fn elasticity_tensor(gugu0: V3, lambda: f64, myu: f64) -> Matrix3
     ensures { result ≡ elasticity_tensor_of binary64 gugu0 lambda myu }
 {
@@ -102,6 +72,8 @@ fn elasticity_tensor(gugu0: V3, lambda: f64, myu: f64) -> Matrix3
     Matrix3 { x, y, z }
 }
 
+// lambda and myu stand apart, as in the source and in the definitions: these numbers know of no material.
+#[tactic(auto, unfolding(crate::specs::Stvk::state_of, crate::specs::Stvk::glstrain_of, crate::specs::Stvk::gugu0_of))]
 pub fn state_of(p0: Tri3, p1: Tri3, lambda: f64, myu: f64) -> State
     ensures { result ≡ state_of binary64 p0 p1 lambda myu }
 {
@@ -130,6 +102,7 @@ pub fn state_of(p0: Tri3, p1: Tri3, lambda: f64, myu: f64) -> State
     }
 }
 
+#[tactic(auto, unfolding(crate::specs::Stvk::w_of))]
 pub fn w(s: State) -> f64
     ensures { result ≡ w_of binary64 s }
 {
@@ -137,45 +110,39 @@ pub fn w(s: State) -> f64
 }
 
 // gd[0][idim] and gd[1][idim] for idim = 0, 1, 2.
-fn along(gd: Gd) -> Pairs
+#[tactic(auto, unfolding(crate::specs::Stvk::along_of))]
+fn along(gd: Gd) -> [V2; 3]
     ensures { result ≡ along_of gd }
 {
-    let x = V2 {
-        x: gd.x.x,
-        y: gd.y.x,
-    };
-    let y = V2 {
-        x: gd.x.y,
-        y: gd.y.y,
-    };
-    let z = V2 {
-        x: gd.x.z,
-        y: gd.y.z,
-    };
-    Pairs { x, y, z }
+    [
+        V2 {
+            x: gd.x.x,
+            y: gd.y.x,
+        },
+        V2 {
+            x: gd.x.y,
+            y: gd.y.y,
+        },
+        V2 {
+            x: gd.x.z,
+            y: gd.y.z,
+        },
+    ]
 }
 
-fn dndr() -> Pairs
+#[tactic(auto, unfolding(crate::specs::Stvk::dndr_of))]
+fn dndr() -> [V2; 3]
     ensures { result ≡ dndr_of binary64 }
 {
-    let x = V2 { x: -1.0, y: -1.0 };
-    let y = V2 { x: 1.0, y: 0.0 };
-    let z = V2 { x: 0.0, y: 1.0 };
-    Pairs { x, y, z }
-}
-
-#[tactic(auto, unfolding(crate::specs::Stvk::at_of))]
-fn at(pairs: Pairs, i: usize) -> V2
-    ensures { result ≡ at_of pairs i }
-{
-    match i {
-        0 => pairs.x,
-        1 => pairs.y,
-        _ => pairs.z,
-    }
+    [
+        V2 { x: -1.0, y: -1.0 },
+        V2 { x: 1.0, y: 0.0 },
+        V2 { x: 0.0, y: 1.0 },
+    ]
 }
 
 // gi is gd[0][idim] and gd[1][idim], ni is dNdr[ino]; gj and nj, below, the same for jdim and jno.
+#[tactic(auto, unfolding(crate::specs::Stvk::dw_at_of))]
 fn dw_at(area0: f64, spkstress: V3, gi: V2, ni: V2) -> f64
     ensures { result ≡ dw_at_of binary64 area0 spkstress gi ni }
 {
@@ -190,158 +157,123 @@ pub fn dw(s: State) -> [f64; 9]
     ensures { result ≡ dw_of binary64 s }
 {
     let g = along(s.gd);
-    let n = dndr();
     let mut dw = [0.0; 9];
-    for ino in 0..3usize {
-        for idim in 0..3usize {
-            dw[ino * 3 + idim] = dw_at(s.rest.area0, s.spkstress, at(g, idim), at(n, ino));
+    for (ino, &ni) in dndr().iter().enumerate() {
+        for (idim, &gi) in g.iter().enumerate() {
+            dw[ino * 3 + idim] = dw_at(s.rest.area0, s.spkstress, gi, ni);
         }
     }
     dw
 }
 
-fn terms_of(e: Matrix3, gi: V2, ni: V2, gj: V2) -> Terms
+// Four terms of dtmp0, each without its last factor: a is one of gi times one of ni, and e a row of the tensor.
+#[tactic(auto, unfolding(crate::specs::Parts::four_of))]
+fn four(a: f64, e: V3, gj: V2) -> [f64; 4]
+    ensures { result ≡ four_of binary64 a e gj }
+{
+    [
+        a * e.x * gj.x,
+        a * e.y * gj.y,
+        a * e.z * gj.x,
+        a * e.z * gj.y,
+    ]
+}
+
+// The terms of dtmp0 in the source's order, each without its last factor: that alone depends on jno.
+#[tactic(auto, unfolding(crate::specs::Parts::terms_of))]
+fn terms_of(e: Matrix3, gi: V2, ni: V2, gj: V2) -> [[f64; 4]; 4]
     ensures { result ≡ terms_of binary64 e gi ni gj }
 {
-    let xx = gi.x * ni.x;
-    let yy = gi.y * ni.y;
-    let xy = gi.x * ni.y;
-    let yx = gi.y * ni.x;
-    Terms {
-        t0: xx * e.x.x * gj.x,
-        t1: xx * e.x.y * gj.y,
-        t2: xx * e.x.z * gj.x,
-        t3: xx * e.x.z * gj.y,
-        t4: yy * e.y.x * gj.x,
-        t5: yy * e.y.y * gj.y,
-        t6: yy * e.y.z * gj.x,
-        t7: yy * e.y.z * gj.y,
-        t8: xy * e.z.x * gj.x,
-        t9: xy * e.z.y * gj.y,
-        t10: xy * e.z.z * gj.x,
-        t11: xy * e.z.z * gj.y,
-        t12: yx * e.z.x * gj.x,
-        t13: yx * e.z.y * gj.y,
-        t14: yx * e.z.z * gj.x,
-        t15: yx * e.z.z * gj.y,
+    [
+        four(gi.x * ni.x, e.x, gj),
+        four(gi.y * ni.y, e.y, gj),
+        four(gi.x * ni.y, e.z, gj),
+        four(gi.y * ni.x, e.z, gj),
+    ]
+}
+
+// Summed from its terms.
+#[inline(always)]
+#[tactic(auto, unfolding(crate::specs::Parts::sum_of))]
+fn dtmp0(terms: [[f64; 4]; 4], nj: V2) -> f64
+    ensures { result ≡ sum_of binary64 terms nj }
+{
+    terms.iter().fold(0.0, |dtmp0, t| {
+        dtmp0 + t[0] * nj.x + t[1] * nj.y + t[2] * nj.y + t[3] * nj.x
+    })
+}
+
+// dtmp0 * area0 for jdim = 0, 1, 2. Inlined where dNdr[jno] is known, so that nothing is left of a product by 1 or -1.
+#[inline(always)]
+#[tactic(auto, unfolding(crate::specs::Parts::sums_of))]
+fn row(x: [[f64; 4]; 4], y: [[f64; 4]; 4], z: [[f64; 4]; 4], nj: V2, area0: f64) -> V3
+    ensures { result ≡ sums_of binary64 x y z nj area0 }
+{
+    V3 {
+        x: dtmp0(x, nj) * area0,
+        y: dtmp0(y, nj) * area0,
+        z: dtmp0(z, nj) * area0,
     }
 }
 
-// From the terms of any e, gi, ni, gj.
-fn dtmp0(t: Terms, nj: V2) -> f64
-    ensures { (e : Matrix3) (gi ni gj : V2) → t ≡ terms_of binary64 e gi ni gj → result ≡ dtmp0_of binary64 e gi ni gj nj }
-{
-    let mut dtmp0 = 0.0;
-    dtmp0 += t.t0 * nj.x;
-    dtmp0 += t.t1 * nj.y;
-    dtmp0 += t.t2 * nj.y;
-    dtmp0 += t.t3 * nj.x;
-    dtmp0 += t.t4 * nj.x;
-    dtmp0 += t.t5 * nj.y;
-    dtmp0 += t.t6 * nj.y;
-    dtmp0 += t.t7 * nj.x;
-    dtmp0 += t.t8 * nj.x;
-    dtmp0 += t.t9 * nj.y;
-    dtmp0 += t.t10 * nj.y;
-    dtmp0 += t.t11 * nj.x;
-    dtmp0 += t.t12 * nj.x;
-    dtmp0 += t.t13 * nj.y;
-    dtmp0 += t.t14 * nj.y;
-    dtmp0 += t.t15 * nj.x;
-    dtmp0
-}
-
-// dtmp0 * area0 for jdim = 0, 1, 2, a row for each jno. The sixteen products serve three jno, and each dtmp0 is small enough that the compiler puts it here with dNdr[jno] known,
-// where nothing is left of a product by 1 or -1.
-fn rows(s: State, g: Pairs, gi: V2, ni: V2) -> Matrix3
+// A row for each jno: the sixteen products of a jdim serve all three.
+fn rows(s: State, g: [V2; 3], gi: V2, ni: V2) -> Matrix3
     ensures { result ≡ rows_of binary64 s g gi ni }
 {
     let area0 = s.rest.area0;
-    let x = terms_of(s.tensor, gi, ni, g.x);
-    let y = terms_of(s.tensor, gi, ni, g.y);
-    let z = terms_of(s.tensor, gi, ni, g.z);
+    let x = terms_of(s.tensor, gi, ni, g[0]);
+    let y = terms_of(s.tensor, gi, ni, g[1]);
+    let z = terms_of(s.tensor, gi, ni, g[2]);
     let n = dndr();
     Matrix3 {
-        x: V3 {
-            x: dtmp0(x, n.x) * area0,
-            y: dtmp0(y, n.x) * area0,
-            z: dtmp0(z, n.x) * area0,
-        },
-        y: V3 {
-            x: dtmp0(x, n.y) * area0,
-            y: dtmp0(y, n.y) * area0,
-            z: dtmp0(z, n.y) * area0,
-        },
-        z: V3 {
-            x: dtmp0(x, n.z) * area0,
-            y: dtmp0(y, n.z) * area0,
-            z: dtmp0(z, n.z) * area0,
-        },
+        x: row(x, y, z, n[0], area0),
+        y: row(x, y, z, n[1], area0),
+        z: row(x, y, z, n[2], area0),
     }
 }
 
-// Three blocks from their rows for idim = 0, 1, 2; dtmp1 is added to a block's entries 0, 4 and 8.
-fn three_blocks(x: Matrix3, y: Matrix3, z: Matrix3, dtmp1: V3) -> [f64; 27]
-    ensures { result ≡ (block_of binary64 x.x y.x z.x dtmp1.x ++ block_of binary64 x.y y.y z.y dtmp1.y)
-        ++ block_of binary64 x.z y.z z.z dtmp1.z }
+// A block of three rows; dtmp1 is added to its entries 0, 4 and 8.
+#[tactic(auto, unfolding(crate::specs::Stvk::block_of))]
+fn block(x: V3, y: V3, z: V3, dtmp1: f64) -> [f64; 9]
+    ensures { result ≡ block_of binary64 x y z dtmp1 }
 {
     [
-        x.x.x + dtmp1.x,
-        x.x.y,
-        x.x.z,
-        y.x.x,
-        y.x.y + dtmp1.x,
-        y.x.z,
-        z.x.x,
-        z.x.y,
-        z.x.z + dtmp1.x,
-        x.y.x + dtmp1.y,
-        x.y.y,
-        x.y.z,
-        y.y.x,
-        y.y.y + dtmp1.y,
-        y.y.z,
-        z.y.x,
-        z.y.y,
-        z.y.z + dtmp1.y,
-        x.z.x + dtmp1.z,
-        x.z.y,
-        x.z.z,
-        y.z.x,
-        y.z.y + dtmp1.z,
-        y.z.z,
-        z.z.x,
-        z.z.y,
-        z.z.z + dtmp1.z,
+        x.x + dtmp1,
+        x.y,
+        x.z,
+        y.x,
+        y.y + dtmp1,
+        y.z,
+        z.x,
+        z.y,
+        z.z + dtmp1,
     ]
 }
 
 // ddw[ino]: three blocks, for jno = 0, 1, 2.
-fn ddw_of_corner(s: State, g: Pairs, ni: V2) -> [f64; 27]
-    ensures { result ≡ each 3 (λ jno. ddw_at_of binary64 s g ni (at_of (dndr_of binary64) jno)) }
+fn ddw_of_corner(s: State, g: [V2; 3], ni: V2) -> [[f64; 9]; 3]
+    ensures { result ≡ blocks_of binary64 s g ni }
 {
+    let x = rows(s, g, g[0], ni);
+    let y = rows(s, g, g[1], ni);
+    let z = rows(s, g, g[2], ni);
     let n = dndr();
-    let x = rows(s, g, g.x, ni);
-    let y = rows(s, g, g.y, ni);
-    let z = rows(s, g, g.z, ni);
-    let dtmp1 = V3 {
-        x: dw_at(s.rest.area0, s.spkstress, ni, n.x),
-        y: dw_at(s.rest.area0, s.spkstress, ni, n.y),
-        z: dw_at(s.rest.area0, s.spkstress, ni, n.z),
-    };
-    three_blocks(x, y, z, dtmp1)
+    [
+        block(x.x, y.x, z.x, dw_at(s.rest.area0, s.spkstress, ni, n[0])),
+        block(x.y, y.y, z.y, dw_at(s.rest.area0, s.spkstress, ni, n[1])),
+        block(x.z, y.z, z.z, dw_at(s.rest.area0, s.spkstress, ni, n[2])),
+    ]
 }
 
+// Stored corner by corner: arrays of arrays, made by `array::from_fn` or `map` and flattened, take more instructions for the copies.
 pub fn ddw(s: State) -> [f64; 81]
     ensures { result ≡ ddw_of binary64 s }
 {
     let g = along(s.gd);
-    let n = dndr();
     let mut ddw = [0.0; 81];
-    for ino in 0..3usize {
-        let d = ddw_of_corner(s, g, at(n, ino));
-        for k in 0..27usize {
-            ddw[ino * 27 + k] = d[k];
+    for (ino, &ni) in dndr().iter().enumerate() {
+        for (k, &entry) in ddw_of_corner(s, g, ni).as_flattened().iter().enumerate() {
+            ddw[ino * 27 + k] = entry;
         }
     }
     ddw

@@ -1,40 +1,29 @@
--- A search in order keeps that nothing before the place is wrong. It stops where something is, or at the end, and there is one such place.
-use mathlib.Core.Path.{◌≡◌, sym, ◌∙◌}
-use mathlib.Core.Bool.{Bool, true, false, true≢false}
-use Prim.Native.Nat.{ℕ, ◌+◌, ◌≤◌, ◌<◌}
-use native.Mathlib.Nat.{lt_of_not-le}
+-- A search in order stops at the first place where something is wrong; and there is one such place, or none.
+use Rattle.std.proofs.Common.{◌≡◌, ◌∙◌, sym, ap, refl, Bool, true, false, Option, Some, None, ℕ, ◌≤◌, ◌<◌, arith}
+use Rattle.std.specs.Option.{MatchOption}
+use mathlib.Core.Bool.{true≢false}
 use native.Mathlib.Decide.{dec_le}
-use native.Mathlib.Omega.{arith}
 use Rattle.survey.specs.First.{IsFirst}
 
 module _ (n : ℕ) (wrong : ℕ → Bool) where
-  abbrev pub ClearTo : ℕ → Type 0
-  ClearTo k = (k ≤ n) × ((i : ℕ) → i < k → wrong i ≡ false)
+  -- as `find` over 0..n says it
+  pub found : (r : Option ℕ)
+      → MatchOption r ((k : ℕ) → 0 ≤ k → k < n → wrong k ≡ false) (λ i. (0 ≤ i) × (i < n) × (wrong i ≡ true) × ((k : ℕ) → 0 ≤ k → k < i → wrong k ≡ false))
+      → IsFirst n wrong r
+  found None h = λ k g. h k (omega arith) g
+  found (Some i) h = (h.1, h.2, λ k g. h.3 k (omega arith) g)
 
-  pub begun : ClearTo 0
-  begun = (omega arith, λ i h. absurd (omega arith))
+  not_both : (k : ℕ) → wrong k ≡ true → wrong k ≡ false → ⊥
+  not_both k h g = true≢false (sym h ∙ g)
 
-  pub passed : (k : ℕ) → ClearTo k → k < n → wrong k ≡ false → ClearTo (k + 1)
-  passed k c h e = (omega arith, λ i g. by i g (dec_le k i))
-    where
-      by : (i : ℕ) → i < k + 1 → Dec (k ≤ i) → wrong i ≡ false
-      by i g (yes m) = let z : i ≡ k = omega arith in rw z e
-      by i g (no m) = c.1 i (lt_of_not-le m)
-
-  pub found : (k : ℕ) → ClearTo k → wrong k ≡ true → IsFirst n wrong k
-  found k c e = record { most = c.0; before = c.1; there = λ h. e }
-
-  pub ended : (k : ℕ) → ClearTo k → n ≤ k → IsFirst n wrong k
-  ended k c h = record { most = c.0; before = c.1; there = λ g. absurd (omega arith) }
-
-  not_before : {r q : ℕ} → IsFirst n wrong r → IsFirst n wrong q → r < q → ⊥
-  not_before {r} {q} a b h = true≢false (sym (a.there (omega (arith, b.most))) ∙ b.before r h)
+  same : (r q : ℕ) → IsFirst n wrong (Some r) → IsFirst n wrong (Some q) → Dec (r ≤ q) → Dec (q ≤ r) → r ≡ q
+  same r q a b (yes h) (yes g) = omega arith
+  same r q a b (yes h) (no g) = absurd (not_both r a.1 (b.2 r (omega arith)))
+  same r q a b (no h) g = absurd (not_both q b.1 (a.2 q (omega arith)))
 
   -- no second place fits
-  pub unique : {r q : ℕ} → IsFirst n wrong r → IsFirst n wrong q → r ≡ q
-  unique {r} {q} a b = by (dec_le r q) (dec_le q r)
-    where
-      by : Dec (r ≤ q) → Dec (q ≤ r) → r ≡ q
-      by (yes h) (yes g) = omega arith
-      by (yes h) (no g) = absurd (not_before a b (lt_of_not-le g))
-      by (no h) g = absurd (not_before b a (lt_of_not-le h))
+  pub unique : (r q : Option ℕ) → IsFirst n wrong r → IsFirst n wrong q → r ≡ q
+  unique (Some r) (Some q) a b = ap (λ k. Some k) (same r q a b (dec_le r q) (dec_le q r))
+  unique (Some r) None a b = absurd (not_both r a.1 (b r a.0))
+  unique None (Some q) a b = absurd (not_both q b.1 (a q b.0))
+  unique None None a b = refl

@@ -1,3 +1,5 @@
+mod Chains
 pub mod First
-mod Table
+mod Masses
+mod Places
 pub mod Unique

@@ -1,5 +1,5 @@
 -- What is measured of a wall, from the blocks of its file and its masses: docs/WALL.md names it. Coordinates are millimetres.
-use Rattle.std.specs.Prelude.{Bool, not, ◌&&◌, cond, List, ℕ, ◌+◌, ◌-◌, ◌*◌, ◌/◌, ◌%◌, eqb, ltb, Float, length, get_or, take, drop}
+use Rattle.std.specs.Prelude.{Bool, not, ◌&&◌, cond, List, Option, ℕ, ◌+◌, ◌-◌, ◌*◌, ◌/◌, ◌%◌, eqb, ltb, Float, length, get_or, take, drop}
 use Rattle.std.specs.Float.{binary64}
 use Rattle.std.specs.Float.Ieee.{lt, eq, ne, neg, of_bits}
 use Rattle.float.specs.Ops.{ops}
@@ -9,11 +9,15 @@ use Rattle.rounding.specs.Whole.{is_whole_up_to}
 use Rattle.rounding.specs.Range.{largest_coordinate, largest_factor, between}
 use Rattle.mesh.specs.Blocks.{coordinate_of, name_of}
 use Rattle.del_geo_core.specs.Tri2.{area_of, turns_right}
-use Rattle.del_geo_core.specs.declared.tri2.Tri2.{Tri2}
+use Rattle.del_geo_core.specs.Tri2.{Tri2}
 use Rattle.del_geo_core.specs.declared.tri2.V2.{V2}
 use Rattle.survey.specs.First.{IsFirst}
+use Rattle.survey.specs.declared.Axis.{Axis}
+use Rattle.survey.specs.declared.Axis.TheVariants.{X, Y}
 use Rattle.survey.specs.declared.Extent.{Extent}
 use Rattle.survey.specs.declared.Row.{Row}
+use Rattle.survey.specs.declared.Side.{Side}
+use Rattle.survey.specs.declared.Side.TheVariants.{Left, Right, Top, Bottom}
 open ops binary64 use {◌⊕◌, zero}
 
 infixl 75 ◌⊕◌
@@ -48,13 +52,13 @@ abbrev pub turned_at : (points cells : List ℕ) (t : ℕ) → Bool
 turned_at points cells t = turns_right binary64 (triangle_of points cells t)
 
 -- THE statements of `outside`, `off_plane` and `turned`
-abbrev pub IsOutside : (points : List ℕ) (r : ℕ) → Type 0
+abbrev pub IsOutside : (points : List ℕ) (r : Option ℕ) → Type 0
 IsOutside points r = IsFirst (points_count points * 3) (outside_at points) r
 
-abbrev pub IsOffPlane : (points : List ℕ) (r : ℕ) → Type 0
+abbrev pub IsOffPlane : (points : List ℕ) (r : Option ℕ) → Type 0
 IsOffPlane points r = IsFirst (points_count points) (off_plane_at points) r
 
-abbrev pub IsTurned : (points cells : List ℕ) (r : ℕ) → Type 0
+abbrev pub IsTurned : (points cells : List ℕ) (r : Option ℕ) → Type 0
 IsTurned points cells r = IsFirst (triangles_count cells) (turned_at points cells) r
 
 abbrev pub smaller : (a b : Float) → Float
@@ -69,7 +73,7 @@ widened e p = record { x0 = smaller e.x0 p.x; x1 = larger e.x1 p.x; y0 = smaller
 abbrev pub extent_at : V2 → Extent
 extent_at p = record { x0 = p.x; x1 = p.x; y0 = p.y; y1 = p.y }
 
--- THE statement of `extent_of`: the smallest and the largest x and y, from point 0 on
+-- THE statement of `extent`: the smallest and the largest x and y, from point 0 on
 unfoldable pub extent_of : (points : List ℕ) → Extent
 extent_of points = fold widened (extent_at (point_of points 0)) (table (points_count points) (point_of points))
 
@@ -93,13 +97,21 @@ with_idle mass count i = cond (eq (mass_at mass i) zero) (count + 1) count
 unfoldable pub idle_of : (mass : List Float) → ℕ
 idle_of mass = fold (with_idle mass) 0 (table (length mass / 3) (λ i. i))
 
--- THE statement of `row_at`: the smallest or the largest x, or y, and its axis
-abbrev pub row_of : (axis : ℕ) (largest : Bool) → Extent → Row
-row_of axis largest e = cond (eqb axis 0) (record { axis = 0; value = cond largest e.x1 e.x0 }) (record { axis = 1; value = cond largest e.y1 e.y0 })
+-- THE statement of `row`: the smallest or the largest x, or y, and its axis
+abbrev pub row_of : Side → Extent → Row
+row_of Left e = record { axis = X; value = e.x0 }
+row_of Right e = record { axis = X; value = e.x1 }
+row_of Top e = record { axis = Y; value = e.y1 }
+row_of Bottom e = record { axis = Y; value = e.y0 }
+
+-- which of a point's coordinates an axis is
+abbrev pub index_of : Axis → ℕ
+index_of X = 0
+index_of Y = 1
 
 -- THE statement of `in_row`
 abbrev pub in_row : (points : List ℕ) (row : Row) (i : ℕ) → Bool
-in_row points row i = eq (coordinate_of points i row.axis) row.value
+in_row points row i = eq (coordinate_of points i (index_of row.axis)) row.value
 
 -- the sum with what point i carries, where it is of the row
 abbrev pub with_row : (points : List ℕ) (mass : List Float) (row : Row) (sum : Float) (i : ℕ) → Float

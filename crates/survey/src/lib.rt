@@ -2,12 +2,26 @@
 #![tactic(auto)]
 
 ghost use Rattle.survey.specs.Survey;
-ghost use Rattle.std.specs.Prelude.{◌≡◌, ◌+◌, ◌≤◌, ◌<◌, length};
-ghost use Rattle.survey.specs.Survey.{point_of, triangle_of, is_inside, IsOutside, IsOffPlane, IsTurned};
-ghost use Rattle.survey.specs.Survey.{extent_of, areas_of, mass_at, total_of, with_idle, idle_of, row_of, in_row, with_row, row_mass_of, is_whole_point, is_bounded_of, with_line, line_of, number_at};
+ghost use Rattle.std.specs.Prelude.{◌≡◌};
+ghost use Rattle.survey.specs.Survey.{points_count, triangles_count, point_of, triangle_of, is_inside, IsOutside, IsOffPlane, IsTurned};
+ghost use Rattle.survey.specs.Survey.{extent_at, extent_of, areas_of, mass_at, total_of, idle_of, index_of, row_of, in_row, row_mass_of, is_whole_point, is_bounded_of, line_of, number_at};
 
 use del_geo_core::tri2;
 use del_geo_core::tri2::{Tri2, V2};
+
+// A wall, as the blocks of its mesh file have it.
+#[derive(Clone, Copy)]
+pub struct Wall<'a> {
+    pub points: &'a [u8],
+    pub cells: &'a [u8],
+}
+
+// A wall and its masses, three for each point, the translational one first.
+#[derive(Clone, Copy)]
+pub struct Weighed<'a> {
+    pub wall: Wall<'a>,
+    pub mass: &'a [f64],
+}
 
 // The smallest and the largest x and y.
 #[derive(Clone, Copy)]
@@ -18,31 +32,26 @@ pub struct Extent {
     pub y1: f64,
 }
 
-// The points whose coordinate `axis` is the value.
+#[derive(Clone, Copy)]
+pub enum Axis {
+    X,
+    Y,
+}
+
+// The points whose coordinate along the axis is the value.
 #[derive(Clone, Copy)]
 pub struct Row {
-    pub axis: usize,
+    pub axis: Axis,
     pub value: f64,
 }
 
-fn point(points: &[u8], i: usize) -> V2
-    ensures { result ≡ point_of points.now i }
-{
-    V2 {
-        x: mesh::coordinate(points, i, 0),
-        y: mesh::coordinate(points, i, 1),
-    }
-}
-
-// The corners of triangle t.
-pub fn triangle(points: &[u8], cells: &[u8], t: usize) -> Tri2
-    ensures { result ≡ triangle_of points.now cells.now t }
-{
-    Tri2 {
-        p0: point(points, mesh::name(cells, t, 0)),
-        p1: point(points, mesh::name(cells, t, 1)),
-        p2: point(points, mesh::name(cells, t, 2)),
-    }
+// The side of a wall that its hinges are at.
+#[derive(Clone, Copy)]
+pub enum Side {
+    Left,
+    Right,
+    Top,
+    Bottom,
 }
 
 fn is_inside(x: f64) -> bool
@@ -51,52 +60,7 @@ fn is_inside(x: f64) -> bool
     (x < 1.0e9) & (-1.0e9 < x)
 }
 
-// The first coordinate, counted in file order, three to a point, that is not between -10^9 and 10^9; or how many there are.
-pub fn outside(points: &[u8]) -> usize
-    ensures { IsOutside points.now result }
-{
-    let n = points.len() / 24 * 3;
-    let mut k = 0;
-    while k < n {
-        if !is_inside(mesh::coordinate(points, k / 3, k % 3)) {
-            return k;
-        }
-        k += 1;
-    }
-    k
-}
-
-// The first point whose z is not that of point 0; or how many there are.
-pub fn off_plane(points: &[u8]) -> usize
-    ensures { IsOffPlane points.now result }
-{
-    let n = points.len() / 24;
-    let z = mesh::coordinate(points, 0, 2);
-    let mut i = 0;
-    while i < n {
-        if mesh::coordinate(points, i, 2) != z {
-            return i;
-        }
-        i += 1;
-    }
-    i
-}
-
-// The first triangle that turns right; or how many there are.
-pub fn turned(points: &[u8], cells: &[u8]) -> usize
-    ensures { IsTurned points.now cells.now result }
-{
-    let n = cells.len() / 16;
-    let mut t = 0;
-    while t < n {
-        if tri2::turns_right(triangle(points, cells, t)) {
-            return t;
-        }
-        t += 1;
-    }
-    t
-}
-
+// Not f64::min and f64::max: they leave open which of two zeros they answer, and pass over a NaN. Two functions, as there are two definitions: one would take the test.
 fn smaller(a: f64, b: f64) -> f64
     ensures { result ≡ Survey.smaller a b }
 {
@@ -109,152 +73,199 @@ fn larger(a: f64, b: f64) -> f64
     if a < b { b } else { a }
 }
 
-fn widened(e: Extent, p: V2) -> Extent
-    ensures { result ≡ Survey.widened e p }
-{
-    Extent {
-        x0: smaller(e.x0, p.x),
-        x1: larger(e.x1, p.x),
-        y0: smaller(e.y0, p.y),
-        y1: larger(e.y1, p.y),
-    }
-}
-
-pub fn extent_of(points: &[u8]) -> Extent
-    ensures { result ≡ extent_of points.now }
-{
-    let p = point(points, 0);
-    let mut e = Extent {
-        x0: p.x,
-        x1: p.x,
-        y0: p.y,
-        y1: p.y,
-    };
-    for i in 0..points.len() / 24 {
-        e = widened(e, point(points, i));
-    }
-    e
-}
-
-// The triangles' areas, added in the file's order from +0.
-pub fn area(points: &[u8], cells: &[u8]) -> f64
-    ensures { result ≡ areas_of points.now cells.now }
-{
-    let mut sum = 0.0;
-    for t in 0..cells.len() / 16 {
-        let p = triangle(points, cells, t);
-        let signed = tri2::area(p.p0, p.p1, p.p2);
-        sum = sum + signed.area;
-    }
-    sum
-}
-
-// The translational mass of point i, of a buffer of three for each point; +0 where it has none.
-pub fn mass_at(mass: &[f64], i: usize) -> f64
-    ensures { result ≡ mass_at mass.now i }
-{
-    if i < mass.len() / 3 { mass[i * 3] } else { 0.0 }
-}
-
-// The translational masses, added in the points' order from +0.
-pub fn total_mass(mass: &[f64]) -> f64
-    ensures { result ≡ total_of mass.now }
-{
-    let mut sum = 0.0;
-    for i in 0..mass.len() / 3 {
-        sum = sum + mass_at(mass, i);
-    }
-    sum
-}
-
-fn with_idle(count: usize, mass: &[f64], i: usize) -> usize
-    requires count_le_i { count ≤ i }
-    requires i_in_bounds { i < length mass.now }
-    ensures { (result ≡ with_idle mass.now count i) × (result ≤ i + 1) }
-{
-    if mass_at(mass, i) == 0.0 {
-        count + 1
-    } else {
-        count
-    }
-}
-
-// How many points have no mass.
-pub fn idle(mass: &[f64]) -> usize
-    ensures { result ≡ idle_of mass.now }
-{
-    let mut count = 0;
-    for i in 0..mass.len() / 3 {
-        count = with_idle(count, mass, i);
-    }
-    count
-}
-
-// The points of the smallest coordinate `axis`, or of the largest: those of x for axis 0, else of y.
-pub fn row_at(axis: usize, largest: bool, e: Extent) -> Row
-    ensures { result ≡ row_of axis largest e }
-{
-    if axis == 0 {
-        let value = if largest { e.x1 } else { e.x0 };
-        return Row { axis: 0, value };
-    }
-    let value = if largest { e.y1 } else { e.y0 };
-    Row { axis: 1, value }
-}
-
-pub fn in_row(points: &[u8], row: Row, i: usize) -> bool
-    ensures { result ≡ in_row points.now row i }
-{
-    mesh::coordinate(points, i, row.axis) == row.value
-}
-
-fn with_row(sum: f64, points: &[u8], mass: &[f64], row: Row, i: usize) -> f64
-    ensures { result ≡ with_row points.now mass.now row sum i }
-{
-    if in_row(points, row, i) {
-        sum + mass_at(mass, i)
-    } else {
-        sum
-    }
-}
-
-// What the points of a row carry together, added in the points' order from +0.
-pub fn row_mass(points: &[u8], mass: &[f64], row: Row) -> f64
-    ensures { result ≡ row_mass_of points.now mass.now row }
-{
-    let mut sum = 0.0;
-    for i in 0..points.len() / 24 {
-        sum = with_row(sum, points, mass, row, i);
-    }
-    sum
-}
-
 fn is_whole(p: V2) -> bool
     ensures { result ≡ is_whole_point p }
 {
     range::is_whole(p.x) & range::is_whole(p.y)
 }
 
-// Whether demand 3's bound applies to the masses: all x and y are whole numbers up to 1,048,576, density and thickness from 2^-40 to 2^40.
-pub fn is_bounded(points: &[u8], density: f64, thickness: f64) -> bool
-    ensures { result ≡ is_bounded_of points.now density thickness }
-{
-    let mut ok = range::is_factor(density) & range::is_factor(thickness);
-    for i in 0..points.len() / 24 {
-        ok = ok & is_whole(point(points, i));
+impl Extent {
+    fn at(p: V2) -> Self
+        ensures { result ≡ extent_at p }
+    {
+        Extent {
+            x0: p.x,
+            x1: p.x,
+            y0: p.y,
+            y1: p.y,
+        }
     }
-    ok
+
+    fn widened(self, p: V2) -> Self
+        ensures { result ≡ Survey.widened self p }
+    {
+        Extent {
+            x0: smaller(self.x0, p.x),
+            x1: larger(self.x1, p.x),
+            y0: smaller(self.y0, p.y),
+            y1: larger(self.y1, p.y),
+        }
+    }
+
+    // The points of the smallest x, the largest x, the largest y or the smallest y.
+    pub fn row(self, side: Side) -> Row
+        ensures { result ≡ row_of side self }
+    {
+        match side {
+            Side::Left => Row {
+                axis: Axis::X,
+                value: self.x0,
+            },
+            Side::Right => Row {
+                axis: Axis::X,
+                value: self.x1,
+            },
+            Side::Top => Row {
+                axis: Axis::Y,
+                value: self.y1,
+            },
+            Side::Bottom => Row {
+                axis: Axis::Y,
+                value: self.y0,
+            },
+        }
+    }
 }
 
-fn with_line(line: usize, file: &[u8], place: usize, i: usize) -> usize
-    requires line_bound { line ≤ i + 1 }
-    requires i_in_bounds { i < length file.now }
-    ensures { (result ≡ with_line file.now place line i) × (result ≤ i + 2) }
-{
-    if (i < place) & (file[i] == b'\n') {
-        line + 1
-    } else {
-        line
+impl Axis {
+    fn index(self) -> usize
+        ensures { result ≡ index_of self }
+    {
+        match self {
+            Axis::X => 0,
+            Axis::Y => 1,
+        }
+    }
+}
+
+impl Wall<'_> {
+    pub fn points_count(&self) -> usize
+        ensures { result ≡ points_count self.now.points.now }
+    {
+        self.points.len() / 24
+    }
+
+    pub fn triangles_count(&self) -> usize
+        ensures { result ≡ triangles_count self.now.cells.now }
+    {
+        self.cells.len() / 16
+    }
+
+    fn point(&self, i: usize) -> V2
+        ensures { result ≡ point_of self.now.points.now i }
+    {
+        V2 {
+            x: mesh::coordinate(self.points, i, 0),
+            y: mesh::coordinate(self.points, i, 1),
+        }
+    }
+
+    // The corners of triangle t.
+    pub fn triangle(&self, t: usize) -> Tri2
+        ensures { result ≡ triangle_of self.now.points.now self.now.cells.now t }
+    {
+        Tri2 {
+            p0: self.point(mesh::name(self.cells, t, 0)),
+            p1: self.point(mesh::name(self.cells, t, 1)),
+            p2: self.point(mesh::name(self.cells, t, 2)),
+        }
+    }
+
+    // The first coordinate, counted in file order, three to a point, that is not between -10^9 and 10^9.
+    pub fn outside(&self) -> Option<usize>
+        ensures { IsOutside self.now.points.now result }
+    {
+        (0..self.points_count() * 3).find(|&k| !is_inside(mesh::coordinate(
+            self.points,
+            k / 3,
+            k % 3,
+        )))
+    }
+
+    // The first point whose z is not that of point 0.
+    pub fn off_plane(&self) -> Option<usize>
+        ensures { IsOffPlane self.now.points.now result }
+    {
+        let z = mesh::coordinate(self.points, 0, 2);
+        (0..self.points_count()).find(|&i| mesh::coordinate(self.points, i, 2) != z)
+    }
+
+    // The first triangle that turns right.
+    pub fn turned(&self) -> Option<usize>
+        ensures { IsTurned self.now.points.now self.now.cells.now result }
+    {
+        (0..self.triangles_count()).find(|&t| tri2::turns_right(self.triangle(t)))
+    }
+
+    pub fn extent(&self) -> Extent
+        ensures { result ≡ extent_of self.now.points.now }
+    {
+        (0..self.points_count())
+            .map(|i| self.point(i))
+            .fold(Extent::at(self.point(0)), |e, p| e.widened(p))
+    }
+
+    // The triangles' areas, added in the file's order from +0.
+    pub fn area(&self) -> f64
+        ensures { result ≡ areas_of self.now.points.now self.now.cells.now }
+    {
+        (0..self.triangles_count())
+            .map(|t| self.triangle(t))
+            .fold(0.0, |sum, p| sum + tri2::area(p.p0, p.p1, p.p2).area)
+    }
+
+    pub fn in_row(&self, row: Row, i: usize) -> bool
+        ensures { result ≡ in_row self.now.points.now row i }
+    {
+        mesh::coordinate(self.points, i, row.axis.index()) == row.value
+    }
+
+    // Whether demand 3's bound applies to the masses: all x and y are whole numbers up to 1,048,576, density and thickness from 2^-40 to 2^40.
+    pub fn is_bounded(&self, density: f64, thickness: f64) -> bool
+        ensures { result ≡ is_bounded_of self.now.points.now density thickness }
+    {
+        (0..self.points_count()).map(|i| self.point(i)).fold(
+            range::is_factor(density) & range::is_factor(thickness),
+            |ok, p| ok & is_whole(p),
+        )
+    }
+}
+
+impl Weighed<'_> {
+    // The translational mass of point i; +0 where it has none.
+    pub fn mass_at(&self, i: usize) -> f64
+        ensures { result ≡ mass_at self.now.mass.now i }
+    {
+        if i < self.mass.len() / 3 {
+            self.mass[i * 3]
+        } else {
+            0.0
+        }
+    }
+
+    // The translational masses, added in the points' order from +0.
+    pub fn total_mass(&self) -> f64
+        ensures { result ≡ total_of self.now.mass.now }
+    {
+        let (masses, _) = self.mass.as_chunks::<3>();
+        masses.iter().map(|m| m[0]).fold(0.0, |sum, m| sum + m)
+    }
+
+    // How many points have no mass.
+    pub fn idle(&self) -> usize
+        ensures { result ≡ idle_of self.now.mass.now }
+    {
+        let (masses, _) = self.mass.as_chunks::<3>();
+        masses.iter().map(|m| m[0]).filter(|&m| m == 0.0).count()
+    }
+
+    // What the points of a row carry together, added in the points' order from +0.
+    pub fn row_mass(&self, row: Row) -> f64
+        ensures { result ≡ row_mass_of self.now.wall.points.now self.now.mass.now row }
+    {
+        (0..self.wall.points_count())
+            .filter(|&i| self.wall.in_row(row, i))
+            .fold(0.0, |sum, i| sum + self.mass_at(i))
     }
 }
 
@@ -262,27 +273,19 @@ fn with_line(line: usize, file: &[u8], place: usize, i: usize) -> usize
 pub fn line_of(file: &[u8], place: usize) -> usize
     ensures { result ≡ line_of file.now place }
 {
-    let mut line = 1;
-    for i in 0..file.len() {
-        line = with_line(line, file, place, i);
-    }
-    line
+    file[..place.min(file.len())]
+        .iter()
+        .filter(|&&b| b == b'\n')
+        .count()
+        + 1
 }
 
 // The number in the four bytes from the place on, 0 where there are none.
 pub fn number_at(file: &[u8], place: usize) -> usize
     ensures { result ≡ number_at file.now place }
 {
-    if file.len() <= place {
-        return 0;
+    match &file[place.min(file.len())..] {
+        [a, b, c, d, ..] => float::four_bytes([*a, *b, *c, *d]) as usize,
+        _ => 0,
     }
-    if file.len() - place < 4 {
-        return 0;
-    }
-    float::four_bytes(
-        file[place],
-        file[place + 1],
-        file[place + 2],
-        file[place + 3],
-    ) as usize
 }

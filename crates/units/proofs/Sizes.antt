@@ -1,6 +1,7 @@
 -- Sizes in units of 2^-10: the pattern's digits m times 2^e over 2^1075 are n / 1024 exactly where m is n * 2^(1065 - e), since both sides are one fraction.
 use mathlib.Core.Path.{◌≡◌, refl, sym, ap, ◌∙◌}
-use mathlib.Core.Bool.{true, false, true≢false, false≢true}
+use mathlib.Core.Bool.{false, true≢false}
+use Rattle.std.specs.Prelude.{Some, None}
 use Prim.Native.Nat.{ℕ, zero, suc, ◌+◌, ◌-◌, ◌*◌, ◌/◌, ◌%◌, ◌^◌, ◌≤◌, ◌<◌}
 use native.Mathlib.Nat.{add-zero, one-mul, lt_of_not-le, mod-lt, mod-eq_of_lt, lt_of_lt_of_le, mul-pos, mul-mod_left, mul-le-mul, mul-le-mul_left, mul-le-mul_right, eq_of_mul-eq-mul_right}
 use native.Mathlib.Decide.{dec_le}
@@ -22,9 +23,9 @@ shifted k h = shl_exact 1 k 64 (lit< tt) (omega arith) ∙ one-mul (2 ^ k)
 pub shifted_pos : (k : ℕ) → k < 64 → 0 < 1 * 2 ^ k % 2 ^ 64
 shifted_pos k h = rw (shifted k h) (pow_pos k)
 
-pub is_zero_lem : (b : ℕ) → b ≡ 0 → IsScaled b (record { exact = true; n = 0 })
+pub is_zero_lem : (b : ℕ) → b ≡ 0 → IsScaled b (Some 0)
 unfolding of_bits of_fields odd
-is_zero_lem b h = rw h (record { some = λ yes. ((refl, refl), lit< tt); none = λ no. absurd (true≢false no) })
+is_zero_lem b h = rw h (record { some = ((refl, refl), lit< tt); none = λ no. absurd (true≢false no) })
 
 -- over plain variables: A is 2 ^ k, B is 2 ^ e, Q is 2 ^ 1075
 there : (A B Q n m : ℕ) → Q ≡ A * B * 1024 → n * A ≡ m → n * Q ≡ m * B * 1024
@@ -109,15 +110,15 @@ module _ (b : ℕ) where
       go (yes h) = let e : b ≡ 2047 * 2 ^ 52 = omega arith in rw (e, infinity_bits binary64) at is
       go (no h) = rw (above_nan binary64 b (rw (mod-eq_of_lt small) (lt_of_not-le h))) at is
 
-  pub too_low : 0 < b → e < 1013 → IsScaled b (record { exact = false; n = 0 })
-  too_low some most = record { some = λ no. absurd (false≢true no); none = λ no. (refl, λ n small is. by_field (dec_le (2 ^ 52) b) n is) }
+  pub too_low : 0 < b → e < 1013 → IsScaled b None
+  too_low some most = record { some = tt; none = λ no n small is. by_field (dec_le (2 ^ 52) b) n is }
     where
       by_field : Dec (2 ^ 52 ≤ b) → (n : ℕ) → InUnits b n → ⊥
       by_field (yes h) n is = below (omega arith) most n is
       by_field (no h) n is = subnormal some (lt_of_not-le h) n is
 
-  pub too_high : b < 2 ^ 63 → 1062 < e → IsScaled b (record { exact = false; n = 0 })
-  too_high unsigned from = record { some = λ no. absurd (false≢true no); none = λ no. (refl, λ n small is. by_field (dec_le (2047 * 2 ^ 52) b) n small is) }
+  pub too_high : b < 2 ^ 63 → 1062 < e → IsScaled b None
+  too_high unsigned from = record { some = tt; none = λ no n small is. by_field (dec_le (2047 * 2 ^ 52) b) n small is }
     where
       by_field : Dec (2047 * 2 ^ 52 ≤ b) → (n : ℕ) → n < 2 ^ 50 → InUnits b n → ⊥
       by_field (yes h) n small is = special h unsigned n is
@@ -126,11 +127,13 @@ module _ (b : ℕ) where
   abbrev one : ℕ
   one = 1 * 2 ^ (1065 - e) % 2 ^ 64
 
-  pub not_whole : 1013 ≤ e → e ≤ 1062 → (m % one ≡ 0 → ⊥) → IsScaled b (record { exact = false; n = 0 })
-  not_whole from most rest = record { some = λ no. absurd (false≢true no); none = λ no. (refl, λ n small is. not_exactly from most (rw (shifted (1065 - e) (omega arith)) at rest) n is) }
+  pub not_whole : 1013 ≤ e → e ≤ 1062 → (m % one ≡ 0 → ⊥) → IsScaled b None
+  not_whole from most rest = record { some = tt; none = λ no n small is. not_exactly from most (rw (shifted (1065 - e) (omega arith)) at rest) n is }
 
-  pub whole : 1013 ≤ e → e ≤ 1062 → m % one ≡ 0 → IsScaled b (record { exact = true; n = m / one })
+  pub whole : 1013 ≤ e → e ≤ 1062 → m % one ≡ 0 → IsScaled b (Some (m / one))
   whole from most rest = record {
-    some = λ yes. rw (shifted (1065 - e) (omega arith)) (exactly from most (rw (shifted (1065 - e) (omega arith)) at rest));
+    some = rw (shifted (1065 - e) (omega arith)) (exactly from most (rw (shifted (1065 - e) (omega arith)) at rest));
     none = λ no. absurd (true≢false no);
   }
+
+pub ruleset cases = (is_zero_lem, too_low, too_high, not_whole, shifted_pos)

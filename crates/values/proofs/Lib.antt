@@ -1,2 +1,3 @@
 mod Parts
 pub mod Unique
+pub mod Given

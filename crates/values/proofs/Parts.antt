@@ -1,29 +1,25 @@
--- Two parts copied into a list one after the other, up to its end: the list is what stood before them and those parts, and nothing else of what was in it is left.
-use mathlib.Core.Path.{◌≡◌, ◌∙◌, sym}
-use mathlib.Core.List.{List, ◌∷◌, ◌++◌, append-nil}
-use Prim.Native.Nat.{ℕ, ◌+◌, ◌≤◌, ◌<◌}
+-- Parts that are written one after the other, the last up to the list's end: the list is what stood before the last, and the last.
+use mathlib.Core.Path.{◌≡◌, ◌∙◌, ap}
+use mathlib.Core.List.{List, [], ◌∷◌, ◌++◌, append-nil}
+use Prim.Native.Nat.{ℕ, suc, ◌+◌, ◌≤◌}
 use native.Mathlib.Omega.{arith}
-use lib.Ieee.{Float}
-use lib.ListN.{length, take, set, length-set, drop_of_length-le}
-use lib.Seq.{paste, take-paste, take-length, take-suc-set, length-paste}
+use lib.ListN.{length, take, drop, length-drop, drop_of_length-le, length-append, set}
+use Rattle.std.proofs.Math.Seq.{take-append_seam}
+use borrow.Rule.Slice.PartMut.{put_mid}
 
--- a part that ends where the list ends
-last : (d xs : List Float) (at : ℕ) → at + length xs ≡ length d → paste d at xs (length xs) ≡ take at d ++ xs
-last d xs at e =
-    let h : length d ≤ at + length xs = omega (arith, e) in
-    rw (take-length, drop_of_length-le d h, append-nil)
+pub last_part : {A : Type 0} (i n : ℕ) (xs m : List A) → length xs ≡ i + n → put_mid i n xs m ≡ take i xs ++ m
+last_part i n xs m e =
+    let h : length (drop i xs) ≤ n = omega (arith, length-drop i xs, e) in
+    rw (drop_of_length-le (drop i xs) h, append-nil)
 
-pub parts : (d a b : List Float) (p q : ℕ) → p + length a ≡ q → q + length b ≡ length d
-    → paste (paste d p a (length a)) q b (length b) ≡ take p d ++ a ++ b
-parts d a b p q e h =
-    let k : p + length a ≤ length d = omega (arith, e, h) in
-    let m : p ≤ length d = omega (arith, k) in
-    let l : length a ≤ length a = omega arith in
-    last (paste d p a (length a)) b q (h ∙ sym (length-paste d p a (length a) k l)) ∙ rw (sym e, take-paste d p a (length a) m l, take-length a)
+-- two parts, and nothing of what was there
+pub two_parts : {A : Type 0} (i n : ℕ) (a b rest : List A) → length a ≡ i → length rest ≡ n → put_mid i n (a ++ rest) b ≡ a ++ b
+two_parts i n a b rest e h =
+    last_part i n (a ++ rest) b (omega (arith, length-append a rest, e, h)) ∙ ap (λ front. front ++ b) (rw (← e) (take-append_seam a rest))
 
--- with one number before them
-pub number_and_parts : (d a b : List Float) (x : Float) (q : ℕ) → 1 + length a ≡ q → q + length b ≡ length (set d 0 x)
-    → paste (paste (set d 0 x) 1 a (length a)) q b (length b) ≡ x ∷ a ++ b
-number_and_parts d a b x q e h =
-    let k : 0 < length d = omega (arith, e, h, length-set d 0 x) in
-    parts (set d 0 x) a b 1 q e h ∙ rw (take-suc-set d 0 x k)
+-- a number and two parts
+pub number_and_parts : {A : Type 0} (k n : ℕ) (v a b : List A) (x : A) → length a ≡ k → length v ≡ suc k + n → put_mid (suc k) n (put_mid 1 k (set v 0 x) a) b ≡ x ∷ a ++ b
+number_and_parts k n [] a b x e h = absurd (omega (arith, h))
+number_and_parts k n (y ∷ v) a b x e h =
+    let size : length (x ∷ a ++ drop k v) ≡ suc k + n = omega (arith, length-append a (drop k v), length-drop k v, e, h) in
+    last_part (suc k) n (x ∷ a ++ drop k v) b size ∙ ap (λ front. x ∷ front ++ b) (rw (← e) (take-append_seam a (drop (length a) v)))

@@ -1,45 +1,68 @@
-// A kernel's answer as C and Rust take it: the refusal number returned, the values one after the other in a lent array.
+// A kernel's answer as C and Rust take it: the refusal number returned, the values one after the other in a lent array, +0 throughout after a refusal.
 #![tactic(auto)]
 
-ghost use Rattle.std.specs.Prelude.{◌≡◌, ◌+◌, ◌≤◌, length};
-ghost use Rattle.std.proofs.Math.Seq.{paste};
-ghost use Rattle.values.specs.Values.{GivesBending, GivesStrain, GivesEnergy};
+ghost use Rattle.std.specs.Prelude.{◌≡◌, List, ◌∷◌, ◌++◌, Float};
+ghost use Rattle.values.specs.Values.{IsGiven};
 
 use quadratic_bending::Bending;
-use refusal::Energy;
-use stvk_tri3::Strain;
+use refusal::{ACCEPTED, Energy, Refusal};
+use strain::Values;
 
-// Writes xs into values, from the place at on.
-fn put(xs: &[f64], at: usize, values: &mut [f64])
-    requires { at + length xs.now ≤ length values.old }
-    ensures { values.new ≡ paste values.old at xs.now (length xs.now) }
-{
-    for i in 0..xs.len() {
-        values[at + i] = xs[i];
+// What fills N places.
+pub trait Flat<const N: usize> {
+    ghost flat: { Self → List Float };
+
+    fn put(&self, values: &mut [f64; N])
+        ensures { values.new ≡ flat self.now };
+}
+
+impl Flat<39> for Bending {
+    ghost flat = { λ bending. bending.w ++ bending.dwdp };
+
+    #[inline(always)]
+    fn put(&self, values: &mut [f64; 39]) {
+        values[..3].copy_from_slice(&self.w);
+        values[3..].copy_from_slice(&self.dwdp);
     }
 }
 
-pub fn put_bending(bending: Bending, values: &mut [f64; 39]) -> u32
-    ensures { GivesBending bending result values.new }
-{
-    put(&bending.w, 0, values);
-    put(&bending.dwdp, 3, values);
-    bending.number
+impl Flat<30> for Values {
+    ghost flat = { λ strain. strain.w ++ strain.dw };
+
+    #[inline(always)]
+    fn put(&self, values: &mut [f64; 30]) {
+        values[..3].copy_from_slice(&self.w);
+        values[3..].copy_from_slice(&self.dw);
+    }
 }
 
-pub fn put_strain(strain: Strain, values: &mut [f64; 30]) -> u32
-    ensures { GivesStrain strain result values.new }
-{
-    put(&strain.w, 0, values);
-    put(&strain.dw, 3, values);
-    strain.number
+impl Flat<91> for Energy {
+    ghost flat = { λ energy. energy.w ∷ energy.dw ++ energy.ddw };
+
+    #[inline(always)]
+    fn put(&self, values: &mut [f64; 91]) {
+        values[0] = self.w;
+        values[1..10].copy_from_slice(&self.dw);
+        values[10..].copy_from_slice(&self.ddw);
+    }
 }
 
-pub fn put_energy(energy: Energy, values: &mut [f64; 91]) -> u32
-    ensures { GivesEnergy energy result values.new }
+// Inlined, as each `put` is, so that an answer's numbers are not copied on their way, nor by a call of memmove, which the archive does not ask of a C library.
+#[inline(always)]
+pub fn give<T: Flat<N> + Drop, const N: usize>(
+    answer: Result<T, Refusal>,
+    values: &mut [f64; N],
+) -> u32
+    ensures { IsGiven N T.flat answer result values.new }
 {
-    values[0] = energy.w;
-    put(&energy.dw, 1, values);
-    put(&energy.ddw, 10, values);
-    energy.number
+    match answer {
+        Ok(numbers) => {
+            numbers.put(values);
+            ACCEPTED
+        }
+        Err(refusal) => {
+            values.fill(0.0);
+            refusal.number()
+        }
+    }
 }

@@ -1,10 +1,15 @@
 -- Vectors of three numbers, over the format (01-scope 3.2: dot, cross, sub, scale, norm, normalize).
-use Rattle.std.specs.Prelude.{Float}
+use Rattle.std.specs.Prelude.{List, Float}
 use Rattle.std.specs.Float.{Format}
+use Rattle.float.specs.Lists.{◌!◌}
 use Rattle.float.specs.Ops.{ops}
 use Rattle.root.specs.Root.{root_of}
 use Rattle.vec3.specs.declared.V3.{V3}
 use Rattle.vec3.specs.declared.Divided.{Divided}
+
+-- a point, from a list of its numbers
+abbrev pub point_of : List Float → V3
+point_of a = record { x = a ! 0; y = a ! 1; z = a ! 2 }
 
 module _ (f : Format) where
   open ops f use {◌⊕◌, ◌⊖◌, ◌⊗◌, ◌⊘◌, one}

@@ -3,13 +3,21 @@
 
 ghost use Rattle.std.specs.Prelude.{◌≡◌};
 ghost use Rattle.std.specs.Float.{binary64};
-ghost use Rattle.vec3.specs.Vec3.{dot_of, cross_of, sub_of, scale_of, norm_of, over_of, unit_of, normalize_of};
+ghost use Rattle.vec3.specs.Vec3.{point_of, dot_of, cross_of, sub_of, scale_of, norm_of, over_of, unit_of, normalize_of};
 
 #[derive(Clone, Copy)]
 pub struct V3 {
     pub x: f64,
     pub y: f64,
     pub z: f64,
+}
+
+impl From<[f64; 3]> for V3 {
+    ghost from_gives = { λ a v. v ≡ point_of a };
+
+    fn from([x, y, z]: [f64; 3]) -> Self {
+        V3 { x, y, z }
+    }
 }
 
 // A vector that was scaled by 1 / by: kernels refuse where `by` is zero.
@@ -55,6 +63,7 @@ pub fn scale(a: V3, s: f64) -> V3
     }
 }
 
+#[tactic(auto, unfolding(crate::specs::Vec3::norm_of))]
 pub fn norm(a: V3) -> f64
     ensures { result ≡ norm_of binary64 a }
 {
@@ -62,6 +71,7 @@ pub fn norm(a: V3) -> f64
 }
 
 // a scaled by 1 / d, and d.
+#[tactic(auto, unfolding(crate::specs::Vec3::over_of))]
 pub fn over(a: V3, d: f64) -> Divided
     ensures { result ≡ over_of binary64 a d }
 {
@@ -70,12 +80,14 @@ pub fn over(a: V3, d: f64) -> Divided
 }
 
 // a normalized, and the norm that divided it.
+#[tactic(auto, unfolding(crate::specs::Vec3::unit_of))]
 pub fn unit(a: V3) -> Divided
     ensures { result ≡ unit_of binary64 a }
 {
     over(a, norm(a))
 }
 
+#[tactic(auto, unfolding(crate::specs::Vec3::normalize_of))]
 pub fn normalize(a: V3) -> V3
     ensures { result ≡ normalize_of binary64 a }
 {

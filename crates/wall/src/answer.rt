@@ -1,56 +1,50 @@
 // What is printed of a wall that is read.
-ghost use Rattle.std.specs.Prelude.{◌≡◌, length};
+ghost use Rattle.std.specs.Prelude.{◌≡◌, ◌<◌, length};
 
-use crate::setting::Setting;
-use crate::{put, refused, text};
+use crate::setting::{Mode, Setting};
+use crate::{refused, text};
 use material::Material;
+use refusal::Refusal;
 use std::io;
-use survey::Row;
-use wall_lines::Sheet;
+use survey::{Side, Wall, Weighed};
 
+// A function of its own, whose proof does not count the numbers out.
 fn mass_space() -> [f64; 196_608]
     ensures { 196608 ≡ length result }
 {
     [0.0; 196_608]
 }
 
-// A line for each point of the row, or for every point.
-fn rows(rt: &impl Print, points: &[u8], mass: &[f64], row: Row, every: bool) -> io::Result<()> {
-    let mut space = [0u8; 128];
-    let line: &mut [u8] = &mut space;
-    for i in 0..points.len() / 24 {
-        if every {
-            let n = wall_lines::point(points, mass, i, line);
-            put(rt, line, n)?;
-        } else if survey::in_row(points, row, i) {
-            let n = wall_lines::row(points, mass, i, line);
-            put(rt, line, n)?;
-        }
+// The numbers of one kind, under their name: every third of the list from the first on, each with its highest byte first.
+fn array(rt: &impl Print, template: &[u8], mass: &[f64], first: usize) -> io::Result<()>
+    requires { first < 3 }
+{
+    let points = lines::count(mass.len() / 3);
+    text(rt, &lines::fill::<64>(template, &[points, points]))?;
+    let (masses, _) = mass.as_chunks::<3>();
+    for m in masses {
+        text(rt, &float::to_word(m[first]).to_be_bytes())?;
+    }
+    text(rt, b"\n")
+}
+
+// A line for every point: here and below by number, as the lines take it, and up to the first that cannot be written, which no chain of calls says more plainly.
+fn all(rt: &impl Print, name: &[u8], w: &Weighed) -> io::Result<()> {
+    text(rt, b"file\t")?;
+    text(rt, name)?;
+    text(rt, b"\npoint\tx mm\ty mm\tmass g\n")?;
+    for i in 0..w.wall.points_count() {
+        text(rt, &wall_lines::point::<128>(w, i))?;
     }
     Ok(())
 }
 
-fn label(
-    rt: &impl Print,
-    name: &[u8],
-    s: Setting,
-    points: &[u8],
-    cells: &[u8],
-    mass: &[f64],
-) -> io::Result<()> {
-    let mut line = [0u8; 512];
+fn label(rt: &impl Print, name: &[u8], s: Setting, w: &Weighed) -> io::Result<()> {
     text(rt, b"file        ")?;
     text(rt, name)?;
     text(rt, b"\nversion     3.0\n")?;
-    let sheet = Sheet {
-        density: s.density,
-        thickness: s.thickness,
-        young: s.young,
-        poisson: s.poisson,
-    };
-    let n = wall_lines::head(points, cells, sheet, mass, &mut line);
-    put(rt, &line, n)?;
-    if survey::is_bounded(points, s.density, s.thickness) {
+    text(rt, &wall_lines::head::<512>(w, s.sheet))?;
+    if w.wall.is_bounded(s.sheet.density, s.sheet.thickness) {
         text(
             rt,
             b"bound       each mass is within (d + 3)/2^53 of the exact one, d being how many triangles meet there\n",
@@ -61,170 +55,110 @@ fn label(
             b"bound       none: it is for whole coordinates up to 1048576, density and thickness from 2^-40 to 2^40\n",
         )?;
     }
-    if s.axis == 0 {
-        if s.largest {
-            text(rt, b"row         right\n")?;
-        } else {
-            text(rt, b"row         left\n")?;
-        }
-    } else if s.largest {
-        text(rt, b"row         top\n")?;
-    } else {
-        text(rt, b"row         bottom\n")?;
+    match s.side {
+        Side::Left => text(rt, b"row         left\n")?,
+        Side::Right => text(rt, b"row         right\n")?,
+        Side::Top => text(rt, b"row         top\n")?,
+        Side::Bottom => text(rt, b"row         bottom\n")?,
     }
     text(
         rt,
         b"   point            x mm            y mm         mass kg\n",
     )?;
-    let row = survey::row_at(s.axis, s.largest, survey::extent_of(points));
-    rows(rt, points, mass, row, false)?;
-    let k = wall_lines::together(points, mass, row, &mut line);
-    put(rt, &line, k)
+    let row = w.wall.extent().row(s.side);
+    for i in 0..w.wall.points_count() {
+        if w.wall.in_row(row, i) {
+            text(rt, &wall_lines::row::<512>(w, i))?;
+        }
+    }
+    text(rt, &wall_lines::together::<512>(w, row))
 }
 
-fn picture(
-    rt: &impl Print,
-    s: Setting,
-    points: &[u8],
-    cells: &[u8],
-    mass: &[f64],
-) -> io::Result<()> {
-    let mut space = [0u8; 512];
-    let line: &mut [u8] = &mut space;
-    let e = survey::extent_of(points);
-    let total = survey::total_mass(mass);
-    let n = wall_lines::svg(e, line);
-    put(rt, line, n)?;
-    for t in 0..cells.len() / 16 {
-        let n = wall_lines::outline(points, cells, e, t, line);
-        put(rt, line, n)?;
+fn picture(rt: &impl Print, side: Side, w: &Weighed) -> io::Result<()> {
+    let e = w.wall.extent();
+    let total = w.total_mass();
+    text(rt, &wall_lines::svg::<512>(e))?;
+    for t in 0..w.wall.triangles_count() {
+        text(rt, &wall_lines::outline::<512>(&w.wall, e, t))?;
     }
     text(rt, b"\"/>\n<g fill=\"red\">\n")?;
-    let row = survey::row_at(s.axis, s.largest, e);
-    for i in 0..points.len() / 24 {
-        if survey::in_row(points, row, i) {
-            let n = wall_lines::dot(points, mass, e, total, i, line);
-            put(rt, line, n)?;
+    let row = e.row(side);
+    for i in 0..w.wall.points_count() {
+        if w.wall.in_row(row, i) {
+            text(rt, &wall_lines::dot::<512>(w, e, total, i))?;
         }
     }
-    let n = wall_lines::sizes(e, total, line);
-    put(rt, line, n)
+    text(rt, &wall_lines::sizes::<512>(e, total))
 }
 
-// The numbers of one kind, under their name: every third of the list from the first on, each with its highest byte first.
-fn array(rt: &impl Print, template: &[u8], mass: &[f64], first: usize) -> io::Result<()> {
-    let mut line = [0u8; 64];
-    let points = lines::count(mass.len() / 3);
-    let n = lines::fill(template, &[points, points], &mut line);
-    put(rt, &line, n)?;
-    for i in 0..mass.len() {
-        if i % 3 == first {
-            let w = float::to_word(mass[i]);
-            text(
-                rt,
-                &[
-                    (w / 0x100_0000_0000_0000 % 256) as u8,
-                    (w / 0x1_0000_0000_0000 % 256) as u8,
-                    (w / 0x100_0000_0000 % 256) as u8,
-                    (w / 0x1_0000_0000 % 256) as u8,
-                    (w / 0x100_0000 % 256) as u8,
-                    (w / 0x1_0000 % 256) as u8,
-                    (w / 0x100 % 256) as u8,
-                    (w % 256) as u8,
-                ],
-            )?;
+fn vtk(rt: &impl Print, file: &[u8], mass: &[f64]) -> io::Result<()> {
+    text(rt, file)?;
+    array(
+        rt,
+        b"POINT_DATA %0000\nFIELD masses 3\nmass_mg 1 %0000 double\n",
+        mass,
+        0,
+    )?;
+    array(rt, b"rotation_x_mg_m2 1 %0000 double\n", mass, 1)?;
+    array(rt, b"rotation_y_mg_m2 1 %0000 double\n", mass, 2)
+}
+
+// A file that reads well, and the wall in it.
+#[derive(Clone, Copy)]
+pub(crate) struct Read<'a> {
+    pub name: &'a [u8],
+    pub file: &'a [u8],
+    pub wall: Wall<'a>,
+}
+
+impl Read<'_> {
+    fn weigh(&self, rt: &impl Print, s: Setting, mass: &mut [f64]) -> io::Result<()> {
+        let wall = self.wall;
+        let sheet = Material::young(
+            s.sheet.density,
+            s.sheet.thickness,
+            s.sheet.young,
+            s.sheet.poisson,
+        );
+        if let Err(refusal) = mesh_masses::masses(wall.points, wall.cells, sheet, mass) {
+            refused(rt, self.name)?;
+            if refusal == Refusal::Turned {
+                let t = wall.turned().unwrap_or(wall.triangles_count());
+                return text(rt, &wall_lines::turned::<128>(&wall, t));
+            }
+            return println!(rt; "{refusal}");
+        }
+        let w = Weighed { wall, mass };
+        match s.mode {
+            Mode::All => all(rt, self.name, &w),
+            Mode::Picture => picture(rt, s.side, &w),
+            Mode::Vtk => vtk(rt, self.file, w.mass),
+            _ => label(rt, self.name, s, &w),
         }
     }
-    text(rt, b"\n")
-}
 
-fn weigh(
-    rt: &impl Print,
-    name: &[u8],
-    s: Setting,
-    file: &[u8],
-    points: &[u8],
-    cells: &[u8],
-    mass: &mut [f64],
-) -> io::Result<()> {
-    let sheet = Material::young(s.density, s.thickness, s.young, s.poisson);
-    let number = mesh_masses::masses(points, cells, sheet, mass);
-    if number == refusal::TURNED {
-        let mut line = [0u8; 128];
-        let n = wall_lines::turned(cells, survey::turned(points, cells), &mut line);
-        refused(rt, name)?;
-        put(rt, &line, n)
-    } else if number != refusal::ACCEPTED {
-        let mut line = [0u8; 64];
-        let n = words::meaning(number, &mut line);
-        refused(rt, name)?;
-        put(rt, &line, n)?;
-        text(rt, b"\n")
-    } else if s.all {
-        text(rt, b"file\t")?;
-        text(rt, name)?;
-        text(rt, b"\npoint\tx mm\ty mm\tmass g\n")?;
-        rows(
-            rt,
-            points,
-            mass,
-            Row {
-                axis: 0,
-                value: 0.0,
-            },
-            true,
-        )
-    } else if s.picture {
-        picture(rt, s, points, cells, mass)
-    } else if s.vtk {
-        text(rt, file)?;
-        array(
-            rt,
-            b"POINT_DATA %0000\nFIELD masses 3\nmass_mg 1 %0000 double\n",
-            mass,
-            0,
-        )?;
-        array(rt, b"rotation_x_mg_m2 1 %0000 double\n", mass, 1)?;
-        array(rt, b"rotation_y_mg_m2 1 %0000 double\n", mass, 2)
-    } else {
-        label(rt, name, s, points, cells, mass)
+    // A wall that is none is told.
+    pub(crate) fn look(&self, rt: &impl Print, s: Setting) -> io::Result<()> {
+        if self.wall.points.is_empty() {
+            refused(rt, self.name)?;
+            return text(rt, b"has no points\n");
+        }
+        if self.wall.cells.is_empty() {
+            refused(rt, self.name)?;
+            return text(rt, b"has no triangles\n");
+        }
+        if let Some(k) = self.wall.outside() {
+            refused(rt, self.name)?;
+            return text(rt, &wall_lines::outside::<128>(k));
+        }
+        if let Some(i) = self.wall.off_plane() {
+            refused(rt, self.name)?;
+            return text(rt, &wall_lines::off_plane::<128>(&self.wall, i));
+        }
+        let mut mass = mass_space();
+        match mass.get_mut(..self.wall.points.len() / 24 * 3) {
+            Some(mass) => self.weigh(rt, s, mass),
+            None => Ok(()),
+        }
     }
-}
-
-// A file that reads well: a wall that is none is told.
-pub(crate) fn look(
-    rt: &impl Print,
-    name: &[u8],
-    s: Setting,
-    file: &[u8],
-    points: &[u8],
-    cells: &[u8],
-) -> io::Result<()> {
-    let mut line = [0u8; 128];
-    let places = points.len() / 24 * 3;
-    if points.len() == 0 {
-        refused(rt, name)?;
-        return text(rt, b"has no points\n");
-    }
-    if cells.len() == 0 {
-        refused(rt, name)?;
-        return text(rt, b"has no triangles\n");
-    }
-    let k = survey::outside(points);
-    if k < places {
-        let n = wall_lines::outside(k, &mut line);
-        refused(rt, name)?;
-        return put(rt, &line, n);
-    }
-    let i = survey::off_plane(points);
-    if i * 3 < places {
-        let n = wall_lines::off_plane(points, i, &mut line);
-        refused(rt, name)?;
-        return put(rt, &line, n);
-    }
-    let mut mass = mass_space();
-    if places <= 196_608 {
-        weigh(rt, name, s, file, points, cells, &mut mass[..places])?;
-    }
-    Ok(())
 }

@@ -8,28 +8,23 @@ mod answer;
 mod misread;
 mod setting;
 
-use mesh::Found;
-use setting::Setting;
+use answer::Read;
+use mesh::Misread;
+use misread::{Block, Fault};
+use setting::{Mode, Setting};
 use std::env::FillError;
 use std::rt::{Env, Files};
 use std::{fs, io, str};
+use survey::Wall;
 
 // The longest file that is read. One byte more is asked for, so that a longer one is told from it.
 const MAX_BYTES: usize = 4_194_681;
 
-const HELP: [u8; 680] =
-    *b"wall [label|all|picture|vtk|help] [FILE ..] [word=value ..]\nSizes the walls of mesh files, or the wall on standard input: binary VTK, version 3.0, triangles, millimetres.\n  label     what it weighs and what its hinge row carries; this where none of the five is said\n  all       a line for every point, for a spreadsheet\n  picture   an SVG picture, of one file\n  vtk       the file with its masses, of one file\n  density=1400         kg/m3\n  thickness=1.953125   mm\n  young=2147.483648    MPa, for what uses it later\n  poisson=0.25         for what uses it later\n  row=bottom           the hinge row: left, right, top or bottom\nAn answer that begins with 'refused: ' is a refusal.\n";
+const HELP: &[u8] =
+    b"wall [label|all|picture|vtk|help] [FILE ..] [word=value ..]\nSizes the walls of mesh files, or the wall on standard input: binary VTK, version 3.0, triangles, millimetres.\n  label     what it weighs and what its hinge row carries; this where none of the five is said\n  all       a line for every point, for a spreadsheet\n  picture   an SVG picture, of one file\n  vtk       the file with its masses, of one file\n  density=1400         kg/m3\n  thickness=1.953125   mm\n  young=2147.483648    MPa, for what uses it later\n  poisson=0.25         for what uses it later\n  row=bottom           the hinge row: left, right, top or bottom\nAn answer that begins with 'refused: ' is a refusal.\n";
 
 pub(crate) fn text(rt: &impl Print, bytes: &[u8]) -> io::Result<()> {
     rt.write_all(bytes)
-}
-
-// The first n bytes of a line.
-pub(crate) fn put(rt: &impl Print, line: &[u8], n: usize) -> io::Result<()> {
-    if n <= line.len() {
-        return text(rt, &line[0..n]);
-    }
-    Ok(())
 }
 
 // The beginning of every refusal of a file.
@@ -39,6 +34,7 @@ pub(crate) fn refused(rt: &impl Print, name: &[u8]) -> io::Result<()> {
     text(rt, b": ")
 }
 
+// A function of its own, whose proof does not count the bytes out.
 fn file_space() -> [u8; 4_194_682]
     ensures { 4194682 ≡ length result }
 {
@@ -55,52 +51,43 @@ fn wall(rt: &impl Print, name: &[u8], s: Setting, file: &[u8]) -> io::Result<()>
         );
     }
     match mesh::read_parts(file) {
-        Found::Whole {
-            n,
-            m,
-            points,
-            cells,
-            types: _,
-        } => answer::look(
-            rt,
-            name,
-            s,
-            file,
-            &file[points..points + 24 * n],
-            &file[cells..cells + 16 * m],
-        ),
-        Found::InLines(place) => misread::in_lines(rt, name, file, place),
-        Found::InPoints { n, at, place } => misread::in_block(
-            rt,
-            name,
-            file,
-            place,
-            at,
-            24,
-            n,
-            b"in point %0000",
-            b"",
-            b"in the line after the points",
-            b": 'CELLS m 4m', m at most 131072, is wanted",
-        ),
-        Found::InCells { n, m, at, place } => misread::in_cells(rt, name, file, n, m, at, place),
-        Found::InTypes { m, at, place } => misread::in_block(
-            rt,
-            name,
-            file,
-            place,
-            at,
-            4,
-            m,
-            b"in the type of triangle %0000",
-            b", which is not 5",
-            b"after the types",
-            b": a newline and the end are wanted",
-        ),
+        Ok(mesh) => {
+            let wall = Wall {
+                points: &file[mesh.points..mesh.points + 24 * mesh.n],
+                cells: &file[mesh.cells..mesh.cells + 16 * mesh.m],
+            };
+            Read { name, file, wall }.look(rt, s)
+        }
+        Err(Misread::InLines(place)) => Fault { name, file, place }.in_lines(rt),
+        Err(Misread::InPoints { n, at, place }) => {
+            let block = Block {
+                at,
+                size: 24,
+                many: n,
+                item: "point",
+                after: "in the line after the points",
+                wanted_after: ": 'CELLS m 4m', m at most 131072, is wanted",
+            };
+            Fault { name, file, place }.in_block(rt, block, "")
+        }
+        Err(Misread::InCells { n, m, at, place }) => {
+            Fault { name, file, place }.in_cells(rt, n, m, at)
+        }
+        Err(Misread::InTypes { m, at, place }) => {
+            let block = Block {
+                at,
+                size: 4,
+                many: m,
+                item: "the type of triangle",
+                after: "after the types",
+                wanted_after: ": a newline and the end are wanted",
+            };
+            Fault { name, file, place }.in_block(rt, block, ", which is not 5")
+        }
     }
 }
 
-// Reads until the bytes are full or the input ends, and answers how many were read.
+// Reads until the bytes are full or the input ends, and answers how many were read. It stands in each program that reads: no statement determines what a reader gives, and what is public needs one.
 fn read_full(input: &mut impl io::Read, bytes: &mut [u8]) -> io::Result<usize>
     ensures { ReadsAtMost result bytes.new }
 {
@@ -119,13 +106,11 @@ fn read_full(input: &mut impl io::Read, bytes: &mut [u8]) -> io::Result<usize>
 fn load(rt: &impl Print, name: &[u8], s: Setting, input: &mut impl io::Read) -> io::Result<()> {
     let mut space = file_space();
     match read_full(input, &mut space) {
-        Ok(n) => {
-            if 0 < n {
-                return wall(rt, name, s, &space[..n]);
-            }
+        Ok(0) => {
             refused(rt, name)?;
             text(rt, b"is empty\n")
         }
+        Ok(n) => wall(rt, name, s, &space[..n]),
         Err(_) => {
             refused(rt, name)?;
             text(rt, b"cannot be read\n")
@@ -135,22 +120,18 @@ fn load(rt: &impl Print, name: &[u8], s: Setting, input: &mut impl io::Read) -> 
 
 // Control characters of a name are shown as question marks.
 fn make_visible(name: &mut [u8]) {
-    for i in 0..name.len() {
-        let c = name[i];
-        let hidden = (c < 32) | (c == 127);
-        name[i] = if hidden { b'?' } else { c };
+    for c in name {
+        if c.is_ascii_control() {
+            *c = b'?';
+        }
     }
 }
 
 // How many arguments there are, the program's name among them.
 pub(crate) fn arg_count(env: &impl Env) -> usize {
-    let mut one = [0u8; 1];
-    for i in 0..usize::MAX {
-        if matches!(env.arg(i, &mut one), Err(FillError::NotPresent)) {
-            return i;
-        }
-    }
-    usize::MAX
+    (0..usize::MAX)
+        .find(|&i| matches!(env.arg(i, &mut [0u8; 1]), Err(FillError::NotPresent)))
+        .unwrap_or(usize::MAX)
 }
 
 // Puts argument i at the start of the space and answers its length, 0 where it is missing or longer than the space.
@@ -205,22 +186,18 @@ fn file<R: Files + Env + Print + Eprint>(
 }
 
 fn main(rt: HostRuntime) -> io::Result<()> {
-    let s = setting::read(&rt);
-    let count = arg_count(&rt);
+    let s = match setting::read(&rt) {
+        Ok(s) => s,
+        Err(wrong) => return println!(rt; "refused: {wrong}"),
+    };
+    match s.mode {
+        Mode::Help => return text(&rt, HELP),
+        Mode::Picture if 1 < s.files => return text(&rt, b"refused: picture takes one file\n"),
+        Mode::Vtk if 1 < s.files => return text(&rt, b"refused: vtk takes one file\n"),
+        _ => {}
+    }
     let mut before = false;
-    if s.argument != 0 {
-        return setting::put_wrong(&rt, s);
-    }
-    if s.help {
-        return text(&rt, &HELP);
-    }
-    if s.many & s.picture {
-        return text(&rt, b"refused: picture takes one file\n");
-    }
-    if s.many & s.vtk {
-        return text(&rt, b"refused: vtk takes one file\n");
-    }
-    for i in 1..count {
+    for i in 1..arg_count(&rt) {
         before = file(&rt, s, i, before)?;
     }
     if !before {

@@ -2,40 +2,38 @@
 #![tactic(auto)]
 
 ghost use Rattle.std.specs.Prelude.{◌≡◌};
-ghost use Rattle.wall_lines.specs.Lines.{IsHead, IsRow, IsTogether, IsPoint, edge_of, IsSvg, IsOutline, radius_of, IsDot, IsSizes, IsOutside, IsOffPlane, IsTurned};
+ghost use Rattle.wall_lines.specs.Lines.{IsHead, point_numbers, IsRow, IsTogether, IsPoint, edge_of, IsSvg, IsOutline, radius_of, IsDot, IsSizes, IsOutside, IsOffPlane, IsTurned};
 
-use survey::{Extent, Row};
+use arrayvec::ArrayVec;
+use del_geo_core::tri2::Tri2;
+use survey::{Extent, Row, Wall, Weighed};
 
-const HEAD: [u8; 230] =
-    *b"points      %0000\ntriangles   %0000\nwidth       %3300 mm\nheight      %3300 mm\narea        %0600 m2\ndensity     %3300 kg/m3\nthickness   %9600 mm\nyoung       %0600 MPa\npoisson     %6600\nmass        %0600 kg\nidle        %0000 points\n";
+const HEAD: &[u8] =
+    b"points      %0000\ntriangles   %0000\nwidth       %3300 mm\nheight      %3300 mm\narea        %0600 m2\ndensity     %3300 kg/m3\nthickness   %9600 mm\nyoung       %0600 MPa\npoisson     %6600\nmass        %0600 kg\nidle        %0000 points\n";
 
-const ROW: [u8; 24] = *b"%0008 %3315 %3315 %0615\n";
+const ROW: &[u8] = b"%0008 %3315 %3315 %0615\n";
 
-const TOGETHER: [u8; 47] = *b"together                                 %0615\n";
+const TOGETHER: &[u8] = b"together                                 %0615\n";
 
-const POINT: [u8; 24] = *b"%0000\t%3300\t%3300\t%3600\n";
+const POINT: &[u8] = b"%0000\t%3300\t%3300\t%3600\n";
 
-const SVG: [u8; 221] =
-    *b"<svg xmlns=\"http://www.w3.org/2000/svg\" viewBox=\"%3300 %3300 %3300 %3300\" font-family=\"sans-serif\" font-size=\"%3300\" text-anchor=\"middle\">\n<path fill=\"none\" stroke=\"black\" stroke-width=\"%3300\" stroke-linejoin=\"round\" d=\"\n";
+const SVG: &[u8] =
+    b"<svg xmlns=\"http://www.w3.org/2000/svg\" viewBox=\"%3300 %3300 %3300 %3300\" font-family=\"sans-serif\" font-size=\"%3300\" text-anchor=\"middle\">\n<path fill=\"none\" stroke=\"black\" stroke-width=\"%3300\" stroke-linejoin=\"round\" d=\"\n";
 
-const OUTLINE: [u8; 38] = *b"M%3300 %3300L%3300 %3300L%3300 %3300Z\n";
+const OUTLINE: &[u8] = b"M%3300 %3300L%3300 %3300L%3300 %3300Z\n";
 
-const DOT: [u8; 42] = *b"<circle cx=\"%3300\" cy=\"%3300\" r=\"%3300\"/>\n";
+const DOT: &[u8] = b"<circle cx=\"%3300\" cy=\"%3300\" r=\"%3300\"/>\n";
 
-const SIZES: [u8; 183] =
-    *b"</g>\n<text x=\"%3300\" y=\"%3300\">%3300 mm</text>\n<text transform=\"translate(%3300 %3300) rotate(-90)\">%3300 mm</text>\n<text x=\"%3300\" y=\"%3300\" text-anchor=\"end\">%0600 kg</text>\n</svg>\n";
+const SIZES: &[u8] =
+    b"</g>\n<text x=\"%3300\" y=\"%3300\">%3300 mm</text>\n<text transform=\"translate(%3300 %3300) rotate(-90)\">%3300 mm</text>\n<text x=\"%3300\" y=\"%3300\" text-anchor=\"end\">%0600 kg</text>\n</svg>\n";
 
-const OUTSIDE_X: [u8; 63] = *b"the x of point %0000 is not between -1000000000 and 1000000000\n";
+// Its fifth byte is the coordinate's name.
+const OUTSIDE: [u8; 63] = *b"the x of point %0000 is not between -1000000000 and 1000000000\n";
 
-const OUTSIDE_Y: [u8; 63] = *b"the y of point %0000 is not between -1000000000 and 1000000000\n";
+const OFF_PLANE: &[u8] = b"is not flat: point %0000 lies at z %6600 mm, point 0 at z %6600 mm\n";
 
-const OUTSIDE_Z: [u8; 63] = *b"the z of point %0000 is not between -1000000000 and 1000000000\n";
-
-const OFF_PLANE: [u8; 67] =
-    *b"is not flat: point %0000 lies at z %6600 mm, point 0 at z %6600 mm\n";
-
-const TURNED: [u8; 90] =
-    *b"triangle %0000 turns right: its corners, the points %0000, %0000 and %0000, run clockwise\n";
+const TURNED: &[u8] =
+    b"triangle %0000 turns right: its corners, the points %0000, %0000 and %0000, run clockwise\n";
 
 // What a wall is made of, in kg/m3, m and Pa.
 #[derive(Clone, Copy)]
@@ -47,61 +45,62 @@ pub struct Sheet {
 }
 
 // The label, from the counts on up to what is idle.
-pub fn head(points: &[u8], cells: &[u8], sheet: Sheet, mass: &[f64], out: &mut [u8]) -> usize
-    ensures { IsHead points.now cells.now sheet mass.now out.old result out.new }
+pub fn head<const N: usize>(w: &Weighed, sheet: Sheet) -> ArrayVec<u8, N>
+    ensures { IsHead w.now.wall.points.now w.now.wall.cells.now sheet w.now.mass.now N result }
 {
-    let e = survey::extent_of(points);
-    let n = lines::count(points.len() / 24);
-    let m = lines::count(cells.len() / 16);
-    let area = survey::area(points, cells);
-    let total = survey::total_mass(mass);
-    let idle = lines::count(survey::idle(mass));
+    let e = w.wall.extent();
     lines::fill(
-        &HEAD,
+        HEAD,
         &[
-            n,
-            m,
+            lines::count(w.wall.points_count()),
+            lines::count(w.wall.triangles_count()),
             e.x1 - e.x0,
             e.y1 - e.y0,
-            area,
+            w.wall.area(),
             sheet.density,
             sheet.thickness,
             sheet.young,
             sheet.poisson,
-            total,
-            idle,
+            w.total_mass(),
+            lines::count(w.idle()),
         ],
-        out,
     )
 }
 
-// Point i in the label's table, by its mass in kg.
-pub fn row(points: &[u8], mass: &[f64], i: usize, out: &mut [u8]) -> usize
-    ensures { IsRow points.now mass.now i out.old result out.new }
+// What the lines of a point say.
+fn point_numbers(w: &Weighed, i: usize) -> [f64; 4]
+    ensures { result ≡ point_numbers w.now.wall.points.now w.now.mass.now i }
 {
-    let name = lines::count(i);
-    let x = mesh::coordinate(points, i, 0);
-    let y = mesh::coordinate(points, i, 1);
-    lines::fill(&ROW, &[name, x, y, survey::mass_at(mass, i)], out)
+    [
+        lines::count(i),
+        mesh::coordinate(w.wall.points, i, 0),
+        mesh::coordinate(w.wall.points, i, 1),
+        w.mass_at(i),
+    ]
 }
 
-pub fn together(points: &[u8], mass: &[f64], row: Row, out: &mut [u8]) -> usize
-    ensures { IsTogether points.now mass.now row out.old result out.new }
+// Point i in the label's table, by its mass in kg.
+pub fn row<const N: usize>(w: &Weighed, i: usize) -> ArrayVec<u8, N>
+    ensures { IsRow w.now.wall.points.now w.now.mass.now i N result }
 {
-    lines::fill(&TOGETHER, &[survey::row_mass(points, mass, row)], out)
+    lines::fill(ROW, &point_numbers(w, i))
+}
+
+pub fn together<const N: usize>(w: &Weighed, row: Row) -> ArrayVec<u8, N>
+    ensures { IsTogether w.now.wall.points.now w.now.mass.now row N result }
+{
+    lines::fill(TOGETHER, &[w.row_mass(row)])
 }
 
 // Point i in the list of all, by its mass in g.
-pub fn point(points: &[u8], mass: &[f64], i: usize, out: &mut [u8]) -> usize
-    ensures { IsPoint points.now mass.now i out.old result out.new }
+pub fn point<const N: usize>(w: &Weighed, i: usize) -> ArrayVec<u8, N>
+    ensures { IsPoint w.now.wall.points.now w.now.mass.now i N result }
 {
-    let name = lines::count(i);
-    let x = mesh::coordinate(points, i, 0);
-    let y = mesh::coordinate(points, i, 1);
-    lines::fill(&POINT, &[name, x, y, survey::mass_at(mass, i)], out)
+    lines::fill(POINT, &point_numbers(w, i))
 }
 
 // The edge around a picture.
+#[tactic(auto, unfolding(crate::specs::Lines::edge_of))]
 fn edge(e: Extent) -> f64
     ensures { result ≡ edge_of e }
 {
@@ -109,29 +108,22 @@ fn edge(e: Extent) -> f64
 }
 
 // A picture, up to its outlines.
-pub fn svg(e: Extent, out: &mut [u8]) -> usize
-    ensures { IsSvg e out.old result out.new }
+pub fn svg<const N: usize>(e: Extent) -> ArrayVec<u8, N>
+    ensures { IsSvg e N result }
 {
     let d = edge(e);
     let w = e.x1 - e.x0;
     let h = e.y1 - e.y0;
-    lines::fill(
-        &SVG,
-        &[-d, -d, w + 2.0 * d, h + 2.0 * d, d / 4.0, d / 64.0],
-        out,
-    )
+    lines::fill(SVG, &[-d, -d, w + 2.0 * d, h + 2.0 * d, d / 4.0, d / 64.0])
 }
 
 // Triangle t of a picture.
-pub fn outline(points: &[u8], cells: &[u8], e: Extent, t: usize, out: &mut [u8]) -> usize
-    ensures { IsOutline points.now cells.now e t out.old result out.new }
+pub fn outline<const N: usize>(wall: &Wall, e: Extent, t: usize) -> ArrayVec<u8, N>
+    ensures { IsOutline wall.now.points.now wall.now.cells.now e t N result }
 {
-    let p = survey::triangle(points, cells, t);
-    let p0 = p.p0;
-    let p1 = p.p1;
-    let p2 = p.p2;
+    let Tri2 { p0, p1, p2 } = wall.triangle(t);
     lines::fill(
-        &OUTLINE,
+        OUTLINE,
         &[
             p0.x - e.x0,
             e.y1 - p0.y,
@@ -140,11 +132,11 @@ pub fn outline(points: &[u8], cells: &[u8], e: Extent, t: usize, out: &mut [u8])
             p2.x - e.x0,
             e.y1 - p2.y,
         ],
-        out,
     )
 }
 
 // Of a dot whose area is to the total's as its mass is to the total.
+#[tactic(auto, unfolding(crate::specs::Lines::radius_of))]
 fn radius(mass: f64, total: f64, d: f64) -> f64
     ensures { result ≡ radius_of mass total d }
 {
@@ -156,24 +148,26 @@ fn radius(mass: f64, total: f64, d: f64) -> f64
 }
 
 // Point i of a picture's row.
-pub fn dot(points: &[u8], mass: &[f64], e: Extent, total: f64, i: usize, out: &mut [u8]) -> usize
-    ensures { IsDot points.now mass.now e total i out.old result out.new }
+pub fn dot<const N: usize>(w: &Weighed, e: Extent, total: f64, i: usize) -> ArrayVec<u8, N>
+    ensures { IsDot w.now.wall.points.now w.now.mass.now e total i N result }
 {
-    let x = mesh::coordinate(points, i, 0);
-    let y = mesh::coordinate(points, i, 1);
-    let r = radius(survey::mass_at(mass, i), total, edge(e));
-    lines::fill(&DOT, &[x - e.x0, e.y1 - y, r], out)
+    let x = mesh::coordinate(w.wall.points, i, 0);
+    let y = mesh::coordinate(w.wall.points, i, 1);
+    lines::fill(
+        DOT,
+        &[x - e.x0, e.y1 - y, radius(w.mass_at(i), total, edge(e))],
+    )
 }
 
 // The end of a picture: its sizes and the total.
-pub fn sizes(e: Extent, total: f64, out: &mut [u8]) -> usize
-    ensures { IsSizes e total out.old result out.new }
+pub fn sizes<const N: usize>(e: Extent, total: f64) -> ArrayVec<u8, N>
+    ensures { IsSizes e total N result }
 {
     let d = edge(e);
     let w = e.x1 - e.x0;
     let h = e.y1 - e.y0;
     lines::fill(
-        &SIZES,
+        SIZES,
         &[
             w / 2.0,
             h + d * 0.75,
@@ -185,38 +179,43 @@ pub fn sizes(e: Extent, total: f64, out: &mut [u8]) -> usize
             -(d / 2.0),
             total,
         ],
-        out,
     )
 }
 
 // Why a wall is refused whose coordinate k in file order is not between the limits.
-pub fn outside(k: usize, out: &mut [u8]) -> usize
-    ensures { IsOutside k out.old result out.new }
+pub fn outside<const N: usize>(k: usize) -> ArrayVec<u8, N>
+    ensures { IsOutside k N result }
 {
-    let name = lines::count(k / 3);
-    match k % 3 {
-        0 => lines::fill(&OUTSIDE_X, &[name], out),
-        1 => lines::fill(&OUTSIDE_Y, &[name], out),
-        _ => lines::fill(&OUTSIDE_Z, &[name], out),
-    }
+    let mut template = OUTSIDE;
+    template[4] = b"xyz"[k % 3];
+    lines::fill(&template, &[lines::count(k / 3)])
 }
 
 // One whose point i is in another plane than point 0.
-pub fn off_plane(points: &[u8], i: usize, out: &mut [u8]) -> usize
-    ensures { IsOffPlane points.now i out.old result out.new }
+pub fn off_plane<const N: usize>(wall: &Wall, i: usize) -> ArrayVec<u8, N>
+    ensures { IsOffPlane wall.now.points.now i N result }
 {
-    let name = lines::count(i);
-    let z = mesh::coordinate(points, i, 2);
-    lines::fill(&OFF_PLANE, &[name, z, mesh::coordinate(points, 0, 2)], out)
+    lines::fill(
+        OFF_PLANE,
+        &[
+            lines::count(i),
+            mesh::coordinate(wall.points, i, 2),
+            mesh::coordinate(wall.points, 0, 2),
+        ],
+    )
 }
 
 // And one whose triangle t turns right.
-pub fn turned(cells: &[u8], t: usize, out: &mut [u8]) -> usize
-    ensures { IsTurned cells.now t out.old result out.new }
+pub fn turned<const N: usize>(wall: &Wall, t: usize) -> ArrayVec<u8, N>
+    ensures { IsTurned wall.now.cells.now t N result }
 {
-    let name = lines::count(t);
-    let a = lines::count(mesh::name(cells, t, 0));
-    let b = lines::count(mesh::name(cells, t, 1));
-    let c = lines::count(mesh::name(cells, t, 2));
-    lines::fill(&TURNED, &[name, a, b, c], out)
+    lines::fill(
+        TURNED,
+        &[
+            lines::count(t),
+            lines::count(mesh::name(wall.cells, t, 0)),
+            lines::count(mesh::name(wall.cells, t, 1)),
+            lines::count(mesh::name(wall.cells, t, 2)),
+        ],
+    )
 }

@@ -32,11 +32,9 @@ one_start n r s a b =
     let q = sq_lt_back s (r + 1) (omega (arith, b.lower, a.upper)) in
     omega arith
 
--- from 256 on an entry has five binary digits
-pub five : (n : ℕ) → (256 ≤ n) × (n < 1024) → (16 ≤ get_or starts n 0) × (get_or starts n 0 < 32)
-five n h =
-    let r = rule n h.1 in
-    (omega (arith, sq_lt_back 16 (get_or starts n 0 + 1) (omega (arith, h.0, r.upper))), sq_lt_back (get_or starts n 0) 32 (omega (arith, h.1, r.lower)))
+-- from 256 on a root has five binary digits
+pub five : (n s : ℕ) → (256 ≤ n) × (n < 1024) → Start n s → (16 ≤ s) × (s < 32)
+five n s h r = (omega (arith, sq_lt_back 16 (s + 1) (omega (arith, h.0, r.upper))), sq_lt_back s 32 (omega (arith, h.1, r.lower)))
 
 -- the entry at the top ten digits of a is the digit loop after five turns
 pub started : (a s : ℕ) → a < 2 ^ 54 → Start (a / 2 ^ 44) s → Turn (a * 2 ^ 10) 5 s (a / 2 ^ 44 - s * s) (a % 2 ^ 44 * 2 ^ 20)

@@ -11,27 +11,30 @@
 
 ghost use Rattle.std.specs.Prelude.{◌≡◌, ◌+◌, ◌*◌, ◌^◌, ◌<◌, ◌≤◌};
 ghost use Rattle.whole_root.specs.Whole.{Close, evened_of};
-ghost use Rattle.whole_root.specs.Steps.{Digits};
+ghost use Rattle.whole_root.specs.Steps.{Digits, IsEvened};
 
 mod list;
 
 // A whole root s, and what is left over, r.
-#[derive(Drop)]
+#[derive(Clone, Copy)]
 struct Rooted {
     s: u64,
     r: u64,
 }
 
 // A whole number in two parts: p * 2^25 + q.
-#[derive(Drop)]
+#[derive(Clone, Copy)]
 struct Halves {
     p: u64,
     q: u64,
+    ghost p_below: { p < 2 ^ 30 },
+    ghost q_below: { q < 2 ^ 30 },
 }
 
 // The 53 digits that m leads with, the first taken for 1, or twice that where u is odd: what is left of the power 2^u is a square.
 fn evened(m: u64, u: u64) -> u64
-    ensures { (result ≡ evened_of m u) × (2 ^ 52 ≤ result) × (result < 2 ^ 54) }
+    ensures value { result ≡ evened_of m u }
+    ensures range { IsEvened result }
 {
     let s = (m % 0x8000_0000_0000_0000 + 0x8000_0000_0000_0000) / 0x800;
     if u % 2 == 0 { s } else { s * 2 }
@@ -40,15 +43,14 @@ fn evened(m: u64, u: u64) -> u64
 // The 53 binary digits of the whole root of a * 2^52, and what is left over. The list has the first five;
 // a turn takes two digits of the number, from the top of b, and finds one of the root.
 fn digits(a: u64) -> Rooted
-    requires { (2 ^ 52 ≤ a) × (a < 2 ^ 54) }
+    requires { IsEvened a }
     ensures { Digits (a * 2 ^ 52) result.s result.r }
 {
     let n = a / 0x1000_0000_0000;
     let mut s = list::start(n);
     let mut r = n - s * s;
     let mut b = a % 0x1000_0000_0000 * 0x10_0000;
-    let mut i: u64 = 5;
-    while i < 53 {
+    for _ in 5u64..53 {
         let w = r * 4 + b / 0x4000_0000_0000_0000;
         let t = s * 4 + 1;
         b = b % 0x4000_0000_0000_0000 * 4;
@@ -59,12 +61,12 @@ fn digits(a: u64) -> Rooted
             r = w - t;
             s = s * 2 + 1;
         }
-        i = i + 1;
     }
     Rooted { s, r }
 }
 
 // The whole number nearest to the root of s^2 + r, which the bound on r keeps below s + 3/2: one up where more is left over than s.
+#[tactic(auto, using(crate::proofs::Whole::stays, crate::proofs::Whole::goes_up))]
 fn nearest(d: Rooted) -> u64
     requires { (0 < d.s) × (d.s < 2 ^ 56) × (d.r < 3 * d.s + 3) }
     ensures { Close (d.s * d.s + d.r) result }
@@ -79,7 +81,7 @@ fn closer(y: u64, h: u64) -> u64
     ensures { result < 2 ^ 32 }
 {
     let u = y * y / 0x8000_0000 * h / 0x4000_0000;
-    let w = std::num::wrapping_sub_u64(0xc000_0000 - 4, u) % 0x1_0000_0000;
+    let w = (0xc000_0000u64 - 4).wrapping_sub(u) % 0x1_0000_0000;
     y * w / 0x8000_0000 % 0x1_0000_0000
 }
 
@@ -94,14 +96,14 @@ fn inverse(h: u64, s: u64) -> u64
 }
 
 // p * 2^25 + q should be the root of a * 2^52 rounded down, or one less. h is the first 31 of a's 54 digits; the % bounds d, for the proof.
+#[tactic(auto, using(crate::proofs::Starts::five))]
 fn candidate(a: u64) -> Halves
-    requires { (2 ^ 52 ≤ a) × (a < 2 ^ 54) }
-    ensures { (result.p < 2 ^ 30) × (result.q < 2 ^ 30) }
+    requires { IsEvened a }
 {
     let h = a / 0x80_0000;
     let y = inverse(h, list::start(a / 0x1000_0000_0000));
     let p = h * y / 0x2_0000_0000;
-    let d = std::num::wrapping_sub_u64(4 * a, p * p) % 0x1_0000_0000;
+    let d = (4 * a).wrapping_sub(p * p) % 0x1_0000_0000;
     Halves {
         p,
         q: d * y / 0x4_0000_0000,
@@ -109,23 +111,23 @@ fn candidate(a: u64) -> Halves
 }
 
 // The whole number nearest to the root of a * 2^52: by s = p * 2^25 + q where the check shows what that leaves over, else by the digits.
-fn checked(a: u64, p: u64, q: u64) -> u64
-    requires { (2 ^ 52 ≤ a) × (a < 2 ^ 54) × (p < 2 ^ 30) × (q < 2 ^ 30) }
+fn checked(a: u64, candidate: Halves) -> u64
+    requires { IsEvened a }
     ensures { Close (a * 2 ^ 52) result }
 {
+    let Halves { p, q } = candidate;
     let s = p * 0x200_0000 + q;
-    let d = std::num::wrapping_sub_u64(4 * a, p * p);
+    let d = (4 * a).wrapping_sub(p * p);
     if d < 0x4000_0000 {
-        let e = std::num::wrapping_sub_u64(d * 0x100_0000, p * q);
+        let e = (d * 0x100_0000).wrapping_sub(p * q);
         if e < 0x4000_0000 {
-            let r = std::num::wrapping_sub_u64(e * 0x400_0000, q * q);
+            let r = (e * 0x400_0000).wrapping_sub(q * q);
             if r < 3 * s + 3 {
                 return nearest(Rooted { s, r });
             }
         }
     }
-    let rooted = digits(a);
-    nearest(rooted)
+    nearest(digits(a))
 }
 
 // The whole number nearest to the root of a * 2^52, with the a that `evened` makes of m and u. Any two words will do.
@@ -133,6 +135,5 @@ pub fn nearest_root(m: u64, u: u64) -> u64
     ensures { Close (evened_of m u * 2 ^ 52) result }
 {
     let a = evened(m, u);
-    let c = candidate(a);
-    checked(a, c.p, c.q)
+    checked(a, candidate(a))
 }

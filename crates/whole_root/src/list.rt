@@ -1,6 +1,6 @@
 // The list that the root of every finite number above 0 starts from (01-scope 4.3), and its entry at n, from 256 on.
 ghost use Rattle.std.specs.Prelude.{◌≡◌, ◌+◌, ◌*◌, ◌%◌, ◌<◌, ◌≤◌, slice_index};
-ghost use Rattle.whole_root.specs.Starts.{starts};
+ghost use Rattle.whole_root.specs.Starts.{starts, Start};
 
 // The roots of 0, 1, 2 and so on up to 1,023, each rounded down; a line holds 32 of them.
 const STARTS: [u8; 1024] = *b"\
@@ -38,6 +38,7 @@ const STARTS: [u8; 1024] = *b"\
     \x1f\x1f\x1f\x1f\x1f\x1f\x1f\x1f\x1f\x1f\x1f\x1f\x1f\x1f\x1f\x1f\x1f\x1f\x1f\x1f\x1f\x1f\x1f\x1f\x1f\x1f\x1f\x1f\x1f\x1f\x1f\x1f";
 
 // The constant with a contract: its entries are the definition's.
+#[tactic(auto, unfolding(crate::specs::Starts::starts))]
 fn all() -> [u8; 1024]
     ensures { result ≡ starts }
 {
@@ -72,7 +73,8 @@ fn stepped(s: u64, d: u64, n: u64) -> u64
 // The list's entry at n: that at the last multiple of 128 not above n, or up to three more.
 pub(crate) fn start(n: u64) -> u64
     requires { (256 ≤ n) × (n < 1024) }
-    ensures { result ≡ slice_index starts n }
+    ensures value { result ≡ slice_index starts n }
+    ensures rule { Start n result }
 {
     let s = entry(all(), n / 128 * 128) as u64;
     stepped(stepped(s, 2, n), 1, n)

@@ -1,2 +1,3 @@
+mod Table
 pub mod Unique
 pub mod Room

@@ -10,7 +10,8 @@ use borrow.Author.Tests.{ltb-true}
 use Rattle.float.specs.Lists.{every}
 use Rattle.float.proofs.Fill.{table_length}
 use Rattle.float.proofs.Scan.{both}
-use Rattle.words.specs.Words.{meanings, lookup, IsMeaning}
+use Rattle.refusal.specs.Meanings.{meanings, lookup}
+use Rattle.words.specs.Words.{IsMeaning}
 
 either : (test : Bool) (s t : List ℕ) → length s < 64 → length t < 64 → length (cond test s t) < 64
 either true s t h k = h

@@ -1,0 +1,15 @@
+-- `extent` meets its contract: its chain folds the points of the table.
+use Rattle.std.proofs.Common.{rules, ◌∙◌, arith}
+use Rattle.std.proofs.lemmas.Iterator.{YieldsList-from_range, YieldsList-from_map}
+use Rattle.std.proofs.lemmas.Iterator.Consumers.{YieldsList-at, fold_from_yields_List}
+use Rattle.survey.specs.Survey.{points_count, point_of, widened, extent_of}
+use Rattle.survey.proofs.Chains.{folded}
+use Rattle.survey.proofs.Wall.extent.Goals as goal
+
+pub returns : goal.returns
+unfolding extent_of
+returns c = let p = c.args.self.now.points.now in
+    fold_from_yields_List _ widened _ _ c.fold.ensures.ran
+    (YieldsList-from_map _ (point_of p) (YieldsList-at c.map.ensures.source (YieldsList-from_range 0 (points_count p) (points_count p) (cc) (omega arith))) c.map.ensures.closure (λ x r q k. search rules))
+    (λ a x b q k. search rules)
+    ∙ rw (c.at.ensures, c.point.ensures) (folded widened (point_of p) _ (points_count p))
