@@ -1,3 +1,4 @@
+pub mod Writing
 mod Filling
 mod Shown
 pub mod Unique

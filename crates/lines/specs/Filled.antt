@@ -1,11 +1,10 @@
--- A template with its numbers put in, and a line that has room for so many bytes of it.
-use Rattle.std.specs.Prelude.{◌≡◌, cond, List, [], ◌∷◌, ◌++◌, ℕ, zero, suc, ◌+◌, ◌-◌, ◌*◌, ◌^◌, min, eqb, leb, pos, Float, length, take, get_or, replicate}
+-- A template with its numbers put in, and a text written over the front of a buffer.
+use Rattle.std.specs.Prelude.{◌≡◌, cond, List, [], ◌∷◌, ◌++◌, ℕ, zero, suc, ◌+◌, ◌-◌, ◌*◌, ◌^◌, min, eqb, leb, pos, Float, length, get_or, replicate}
 use Rattle.std.specs.Float.{nan, binary64}
 use Rattle.std.specs.Float.Ieee.{of_int}
 use Rattle.float.specs.Lists.{◌!◌}
 use Rattle.decimal.specs.Units.{units_of}
 use Rattle.decimal.specs.Text.{text_of}
-use Rattle.arrayvec.specs.ArrayVec.{ArrayVec}
 
 -- a text in w places at least, blanks in front
 abbrev pub padded : (w : ℕ) (t : List ℕ) → List ℕ
@@ -37,10 +36,18 @@ module _ (numbers : List Float) where
 unfoldable pub filled_of : (template : List ℕ) (numbers : List Float) → List ℕ
 filled_of template numbers = filled_from numbers 0 0 template
 
--- w is written after what stands in a line, as much of it as there is room for
-abbrev pub Writes : (w : List ℕ) (room : ℕ) (before after : ArrayVec ℕ) → Type 0
-Writes w room before after = after.items ≡ before.items ++ take (room - length before.items) w
+-- the bytes w over those of a buffer from `at` on, as far as there is room
+unfoldable pub over_at : (at : ℕ) (w buffer : List ℕ) → List ℕ
+over_at at w [] = []
+over_at (suc at) w (b ∷ buffer) = b ∷ over_at at w buffer
+over_at zero [] (b ∷ buffer) = b ∷ buffer
+over_at zero (c ∷ w) (b ∷ buffer) = c ∷ over_at zero w buffer
+
+-- w is written so, and r is the place after what there was room for
+pub record Writes (w : List ℕ) (at : ℕ) (before : List ℕ) (r : ℕ) (after : List ℕ) : Type 0 where
+  pub place : r ≡ min (at + length w) (length before)
+  pub made : after ≡ over_at at w before
 
 -- THE statement of `fill`
-abbrev pub IsFilled : (template : List ℕ) (numbers : List Float) (room : ℕ) (r : ArrayVec ℕ) → Type 0
-IsFilled template numbers room r = r.items ≡ take room (filled_of template numbers)
+abbrev pub IsFilled : (template : List ℕ) (numbers : List Float) (before : List ℕ) (r : ℕ) (after : List ℕ) → Type 0
+IsFilled template numbers before r after = Writes (filled_of template numbers) 0 before r after

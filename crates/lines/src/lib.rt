@@ -1,34 +1,40 @@
 #![tactic(auto)]
 
-// Lines of text with numbers in them, from a template, each in a value of its own.
-ghost use Rattle.std.specs.Prelude.{◌≡◌, [], ◌∷◌, ◌<◌};
+// Lines of text with numbers in them, from a template, into a lent buffer of any length: a caller's room may be known at run time alone, and a part of a longer buffer.
+ghost use Rattle.std.specs.Prelude.{◌≡◌, [], ◌∷◌, ◌≤◌, ◌<◌, length};
 ghost use Rattle.lines.specs.Filled.{count_of, digit_of, shown_of, Writes, IsFilled};
 
-use arrayvec::ArrayVec;
-use std::io::Write;
-
-// Bytes at the end of a line, as many as there is room for.
-fn put<const N: usize>(line: &mut ArrayVec<u8, N>, w: &[u8])
-    ensures { Writes w.now N line.old line.new }
+// Bytes from the place on, as many as there is room for; answers the place after them.
+fn put(out: &mut [u8], at: usize, w: &[u8]) -> usize
+    requires { at ≤ length out.old }
+    ensures { Writes w.now at out.old result out.new }
 {
-    let _ = line.write(w);
+    let n = w.len().min(out.len() - at);
+    out[at..at + n].copy_from_slice(&w[..n]);
+    at + n
 }
 
-// One byte at the end of a line, where there is room for it.
-fn byte<const N: usize>(line: &mut ArrayVec<u8, N>, b: u8)
-    ensures { Writes (b ∷ []) N line.old line.new }
+// One byte, where there is room for it.
+fn byte(out: &mut [u8], at: usize, b: u8) -> usize
+    requires { at ≤ length out.old }
+    ensures { Writes (b ∷ []) at out.old result out.new }
 {
-    let _ = line.try_push(b);
+    if at < out.len() {
+        out[at] = b;
+        return at + 1;
+    }
+    at
 }
 
 // x in units of 10^-p, the point in front of the last k digits, in `width` places at least.
-fn number<const N: usize>(line: &mut ArrayVec<u8, N>, x: f64, p: usize, k: usize, width: usize)
-    ensures { Writes (shown_of p k width x) N line.old line.new }
+fn number(out: &mut [u8], at: usize, x: f64, p: usize, k: usize, width: usize) -> usize
+    requires { at ≤ length out.old }
+    ensures { Writes (shown_of p k width x) at out.old result out.new }
 {
     let mut field = [b' '; 32];
     let from = decimal::text::show(decimal::units::units(x, p), k, &mut field);
     let start = from.min(32 - width.min(32));
-    put(line, &field[start..]);
+    put(out, at, &field[start..])
 }
 
 // The digit i of those that follow a `%`.
@@ -53,12 +59,12 @@ pub fn count(n: usize) -> f64
     }
 }
 
-// The template with its numbers put in, as much of it as the line has room for. `%pkww` stands for the next number, in units of 10^-p, with the point in front of its last
+// The template with its numbers put in, as much of it as there is room for; answers how many bytes that is. `%pkww` stands for the next number, in units of 10^-p, with the point in front of its last
 // k digits, in ww places at least, blanks in front; where no number is left, for a NaN.
-pub fn fill<const N: usize>(template: &[u8], numbers: &[f64]) -> ArrayVec<u8, N>
-    ensures { IsFilled template.now numbers.now N result }
+pub fn fill(template: &[u8], numbers: &[f64], out: &mut [u8]) -> usize
+    ensures { IsFilled template.now numbers.now out.old result out.new }
 {
-    let mut line = ArrayVec::new();
+    let mut at = 0;
     let mut left = numbers.iter();
     let mut rest = template;
     while let Some((&c, more)) = rest.split_first() {
@@ -68,12 +74,12 @@ pub fn fill<const N: usize>(template: &[u8], numbers: &[f64]) -> ArrayVec<u8, N>
             let k = digit(more, 1);
             let tens = digit(more, 2);
             let ones = digit(more, 3);
-            number(&mut line, x, p, k, tens * 10 + ones);
+            at = number(out, at, x, p, k, tens * 10 + ones);
             rest = &more[more.len().min(4)..];
         } else {
-            byte(&mut line, c);
+            at = byte(out, at, c);
             rest = more;
         }
     }
-    line
+    at
 }

@@ -2,7 +2,7 @@
 ghost use Rattle.std.specs.Prelude.{◌≡◌, ◌<◌, length};
 
 use crate::setting::{Mode, Setting};
-use crate::{refused, text};
+use crate::{line, refused, text};
 use material::Material;
 use refusal::Refusal;
 use std::io;
@@ -20,7 +20,7 @@ fn array(rt: &impl Print, template: &[u8], mass: &[f64], first: usize) -> io::Re
     requires { first < 3 }
 {
     let points = lines::count(mass.len() / 3);
-    text(rt, &lines::fill::<64>(template, &[points, points]))?;
+    line(rt, |out| lines::fill(template, &[points, points], out))?;
     let (masses, _) = mass.as_chunks::<3>();
     for m in masses {
         text(rt, &float::to_word(m[first]).to_be_bytes())?;
@@ -34,7 +34,7 @@ fn all(rt: &impl Print, name: &[u8], w: &Weighed) -> io::Result<()> {
     text(rt, name)?;
     text(rt, b"\npoint\tx mm\ty mm\tmass g\n")?;
     for i in 0..w.wall.points_count() {
-        text(rt, &wall_lines::point::<128>(w, i))?;
+        line(rt, |out| wall_lines::point(w, i, out))?;
     }
     Ok(())
 }
@@ -43,7 +43,7 @@ fn label(rt: &impl Print, name: &[u8], s: Setting, w: &Weighed) -> io::Result<()
     text(rt, b"file        ")?;
     text(rt, name)?;
     text(rt, b"\nversion     3.0\n")?;
-    text(rt, &wall_lines::head::<512>(w, s.sheet))?;
+    line(rt, |out| wall_lines::head(w, s.sheet, out))?;
     if w.wall.is_bounded(s.sheet.density, s.sheet.thickness) {
         text(
             rt,
@@ -68,27 +68,27 @@ fn label(rt: &impl Print, name: &[u8], s: Setting, w: &Weighed) -> io::Result<()
     let row = w.wall.extent().row(s.side);
     for i in 0..w.wall.points_count() {
         if w.wall.in_row(row, i) {
-            text(rt, &wall_lines::row::<512>(w, i))?;
+            line(rt, |out| wall_lines::row(w, i, out))?;
         }
     }
-    text(rt, &wall_lines::together::<512>(w, row))
+    line(rt, |out| wall_lines::together(w, row, out))
 }
 
 fn picture(rt: &impl Print, side: Side, w: &Weighed) -> io::Result<()> {
     let e = w.wall.extent();
     let total = w.total_mass();
-    text(rt, &wall_lines::svg::<512>(e))?;
+    line(rt, |out| wall_lines::svg(e, out))?;
     for t in 0..w.wall.triangles_count() {
-        text(rt, &wall_lines::outline::<512>(&w.wall, e, t))?;
+        line(rt, |out| wall_lines::outline(&w.wall, e, t, out))?;
     }
     text(rt, b"\"/>\n<g fill=\"red\">\n")?;
     let row = e.row(side);
     for i in 0..w.wall.points_count() {
         if w.wall.in_row(row, i) {
-            text(rt, &wall_lines::dot::<512>(w, e, total, i))?;
+            line(rt, |out| wall_lines::dot(w, e, total, i, out))?;
         }
     }
-    text(rt, &wall_lines::sizes::<512>(e, total))
+    line(rt, |out| wall_lines::sizes(e, total, out))
 }
 
 fn vtk(rt: &impl Print, file: &[u8], mass: &[f64]) -> io::Result<()> {
@@ -124,7 +124,7 @@ impl Read<'_> {
             refused(rt, self.name)?;
             if refusal == Refusal::Turned {
                 let t = wall.turned().unwrap_or(wall.triangles_count());
-                return text(rt, &wall_lines::turned::<128>(&wall, t));
+                return line(rt, |out| wall_lines::turned(&wall, t, out));
             }
             return println!(rt; "{refusal}");
         }
@@ -134,6 +134,15 @@ impl Read<'_> {
             Mode::Picture => picture(rt, s.side, &w),
             Mode::Vtk => vtk(rt, self.file, w.mass),
             _ => label(rt, self.name, s, &w),
+        }
+    }
+
+    // On its own, since a function clears what it holds where it is entered: a wall that is refused before needs no masses.
+    fn sized(&self, rt: &impl Print, s: Setting) -> io::Result<()> {
+        let mut mass = mass_space();
+        match mass.get_mut(..self.wall.points.len() / 24 * 3) {
+            Some(mass) => self.weigh(rt, s, mass),
+            None => Ok(()),
         }
     }
 
@@ -149,16 +158,12 @@ impl Read<'_> {
         }
         if let Some(k) = self.wall.outside() {
             refused(rt, self.name)?;
-            return text(rt, &wall_lines::outside::<128>(k));
+            return line(rt, |out| wall_lines::outside(k, out));
         }
         if let Some(i) = self.wall.off_plane() {
             refused(rt, self.name)?;
-            return text(rt, &wall_lines::off_plane::<128>(&self.wall, i));
+            return line(rt, |out| wall_lines::off_plane(&self.wall, i, out));
         }
-        let mut mass = mass_space();
-        match mass.get_mut(..self.wall.points.len() / 24 * 3) {
-            Some(mass) => self.weigh(rt, s, mass),
-            None => Ok(()),
-        }
+        self.sized(rt, s)
     }
 }

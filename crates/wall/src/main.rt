@@ -27,6 +27,18 @@ pub(crate) fn text(rt: &impl Print, bytes: &[u8]) -> io::Result<()> {
     rt.write_all(bytes)
 }
 
+// What `fill` writes at the start of a line of 512 bytes, answering how many these are. Every line that is printed is shorter.
+pub(crate) fn line<F: Fn(&mut [u8]) -> usize>(rt: &impl Print, fill: F) -> io::Result<()>
+    requires { F.IsAlwaysCallable fill }
+{
+    let mut space = [0u8; 512];
+    let n = fill(&mut space);
+    match space.get(..n) {
+        Some(bytes) => text(rt, bytes),
+        None => Ok(()),
+    }
+}
+
 // The beginning of every refusal of a file.
 pub(crate) fn refused(rt: &impl Print, name: &[u8]) -> io::Result<()> {
     text(rt, b"refused: ")?;

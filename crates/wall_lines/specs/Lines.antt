@@ -4,7 +4,6 @@ use Rattle.std.specs.Float.{binary64}
 use Rattle.std.specs.Float.Ieee.{lt, neg, of_bits}
 use Rattle.float.specs.Ops.{ops}
 use Rattle.float.specs.Text.{ascii}
-use Rattle.arrayvec.specs.ArrayVec.{ArrayVec}
 use Rattle.root.specs.Root.{root_of}
 use Rattle.mesh.specs.Blocks.{coordinate_of, name_of}
 use Rattle.lines.specs.Filled.{count_of, IsFilled}
@@ -16,9 +15,9 @@ open ops binary64 use {◌⊕◌, ◌⊖◌, ◌⊗◌, ◌⊘◌, zero as nough
 
 infixl 75 ◌⊕◌ ◌⊖◌
 infixl 80 ◌⊗◌ ◌⊘◌
--- a line that has room for so many bytes
+-- a buffer before, the answer, and the buffer after
 abbrev pub Text : Type 1
-Text = (room : ℕ) (line : ArrayVec ℕ) → Type 0
+Text = (before : List ℕ) (r : ℕ) (after : List ℕ) → Type 0
 
 abbrev pub width_of : Extent → Float
 width_of e = e.x1 ⊖ e.x0

@@ -4,7 +4,6 @@
 ghost use Rattle.std.specs.Prelude.{◌≡◌};
 ghost use Rattle.wall_lines.specs.Lines.{IsHead, point_numbers, IsRow, IsTogether, IsPoint, edge_of, IsSvg, IsOutline, radius_of, IsDot, IsSizes, IsOutside, IsOffPlane, IsTurned};
 
-use arrayvec::ArrayVec;
 use del_geo_core::tri2::Tri2;
 use survey::{Extent, Row, Wall, Weighed};
 
@@ -45,8 +44,8 @@ pub struct Sheet {
 }
 
 // The label, from the counts on up to what is idle.
-pub fn head<const N: usize>(w: &Weighed, sheet: Sheet) -> ArrayVec<u8, N>
-    ensures { IsHead w.now.wall.points.now w.now.wall.cells.now sheet w.now.mass.now N result }
+pub fn head(w: &Weighed, sheet: Sheet, out: &mut [u8]) -> usize
+    ensures { IsHead w.now.wall.points.now w.now.wall.cells.now sheet w.now.mass.now out.old result out.new }
 {
     let e = w.wall.extent();
     lines::fill(
@@ -64,6 +63,7 @@ pub fn head<const N: usize>(w: &Weighed, sheet: Sheet) -> ArrayVec<u8, N>
             w.total_mass(),
             lines::count(w.idle()),
         ],
+        out,
     )
 }
 
@@ -80,23 +80,23 @@ fn point_numbers(w: &Weighed, i: usize) -> [f64; 4]
 }
 
 // Point i in the label's table, by its mass in kg.
-pub fn row<const N: usize>(w: &Weighed, i: usize) -> ArrayVec<u8, N>
-    ensures { IsRow w.now.wall.points.now w.now.mass.now i N result }
+pub fn row(w: &Weighed, i: usize, out: &mut [u8]) -> usize
+    ensures { IsRow w.now.wall.points.now w.now.mass.now i out.old result out.new }
 {
-    lines::fill(ROW, &point_numbers(w, i))
+    lines::fill(ROW, &point_numbers(w, i), out)
 }
 
-pub fn together<const N: usize>(w: &Weighed, row: Row) -> ArrayVec<u8, N>
-    ensures { IsTogether w.now.wall.points.now w.now.mass.now row N result }
+pub fn together(w: &Weighed, row: Row, out: &mut [u8]) -> usize
+    ensures { IsTogether w.now.wall.points.now w.now.mass.now row out.old result out.new }
 {
-    lines::fill(TOGETHER, &[w.row_mass(row)])
+    lines::fill(TOGETHER, &[w.row_mass(row)], out)
 }
 
 // Point i in the list of all, by its mass in g.
-pub fn point<const N: usize>(w: &Weighed, i: usize) -> ArrayVec<u8, N>
-    ensures { IsPoint w.now.wall.points.now w.now.mass.now i N result }
+pub fn point(w: &Weighed, i: usize, out: &mut [u8]) -> usize
+    ensures { IsPoint w.now.wall.points.now w.now.mass.now i out.old result out.new }
 {
-    lines::fill(POINT, &point_numbers(w, i))
+    lines::fill(POINT, &point_numbers(w, i), out)
 }
 
 // The edge around a picture.
@@ -108,18 +108,22 @@ fn edge(e: Extent) -> f64
 }
 
 // A picture, up to its outlines.
-pub fn svg<const N: usize>(e: Extent) -> ArrayVec<u8, N>
-    ensures { IsSvg e N result }
+pub fn svg(e: Extent, out: &mut [u8]) -> usize
+    ensures { IsSvg e out.old result out.new }
 {
     let d = edge(e);
     let w = e.x1 - e.x0;
     let h = e.y1 - e.y0;
-    lines::fill(SVG, &[-d, -d, w + 2.0 * d, h + 2.0 * d, d / 4.0, d / 64.0])
+    lines::fill(
+        SVG,
+        &[-d, -d, w + 2.0 * d, h + 2.0 * d, d / 4.0, d / 64.0],
+        out,
+    )
 }
 
 // Triangle t of a picture.
-pub fn outline<const N: usize>(wall: &Wall, e: Extent, t: usize) -> ArrayVec<u8, N>
-    ensures { IsOutline wall.now.points.now wall.now.cells.now e t N result }
+pub fn outline(wall: &Wall, e: Extent, t: usize, out: &mut [u8]) -> usize
+    ensures { IsOutline wall.now.points.now wall.now.cells.now e t out.old result out.new }
 {
     let Tri2 { p0, p1, p2 } = wall.triangle(t);
     lines::fill(
@@ -132,6 +136,7 @@ pub fn outline<const N: usize>(wall: &Wall, e: Extent, t: usize) -> ArrayVec<u8,
             p2.x - e.x0,
             e.y1 - p2.y,
         ],
+        out,
     )
 }
 
@@ -148,20 +153,21 @@ fn radius(mass: f64, total: f64, d: f64) -> f64
 }
 
 // Point i of a picture's row.
-pub fn dot<const N: usize>(w: &Weighed, e: Extent, total: f64, i: usize) -> ArrayVec<u8, N>
-    ensures { IsDot w.now.wall.points.now w.now.mass.now e total i N result }
+pub fn dot(w: &Weighed, e: Extent, total: f64, i: usize, out: &mut [u8]) -> usize
+    ensures { IsDot w.now.wall.points.now w.now.mass.now e total i out.old result out.new }
 {
     let x = mesh::coordinate(w.wall.points, i, 0);
     let y = mesh::coordinate(w.wall.points, i, 1);
     lines::fill(
         DOT,
         &[x - e.x0, e.y1 - y, radius(w.mass_at(i), total, edge(e))],
+        out,
     )
 }
 
 // The end of a picture: its sizes and the total.
-pub fn sizes<const N: usize>(e: Extent, total: f64) -> ArrayVec<u8, N>
-    ensures { IsSizes e total N result }
+pub fn sizes(e: Extent, total: f64, out: &mut [u8]) -> usize
+    ensures { IsSizes e total out.old result out.new }
 {
     let d = edge(e);
     let w = e.x1 - e.x0;
@@ -179,21 +185,22 @@ pub fn sizes<const N: usize>(e: Extent, total: f64) -> ArrayVec<u8, N>
             -(d / 2.0),
             total,
         ],
+        out,
     )
 }
 
 // Why a wall is refused whose coordinate k in file order is not between the limits.
-pub fn outside<const N: usize>(k: usize) -> ArrayVec<u8, N>
-    ensures { IsOutside k N result }
+pub fn outside(k: usize, out: &mut [u8]) -> usize
+    ensures { IsOutside k out.old result out.new }
 {
     let mut template = OUTSIDE;
     template[4] = b"xyz"[k % 3];
-    lines::fill(&template, &[lines::count(k / 3)])
+    lines::fill(&template, &[lines::count(k / 3)], out)
 }
 
 // One whose point i is in another plane than point 0.
-pub fn off_plane<const N: usize>(wall: &Wall, i: usize) -> ArrayVec<u8, N>
-    ensures { IsOffPlane wall.now.points.now i N result }
+pub fn off_plane(wall: &Wall, i: usize, out: &mut [u8]) -> usize
+    ensures { IsOffPlane wall.now.points.now i out.old result out.new }
 {
     lines::fill(
         OFF_PLANE,
@@ -202,12 +209,13 @@ pub fn off_plane<const N: usize>(wall: &Wall, i: usize) -> ArrayVec<u8, N>
             mesh::coordinate(wall.points, i, 2),
             mesh::coordinate(wall.points, 0, 2),
         ],
+        out,
     )
 }
 
 // And one whose triangle t turns right.
-pub fn turned<const N: usize>(wall: &Wall, t: usize) -> ArrayVec<u8, N>
-    ensures { IsTurned wall.now.cells.now t N result }
+pub fn turned(wall: &Wall, t: usize, out: &mut [u8]) -> usize
+    ensures { IsTurned wall.now.cells.now t out.old result out.new }
 {
     lines::fill(
         TURNED,
@@ -217,5 +225,6 @@ pub fn turned<const N: usize>(wall: &Wall, t: usize) -> ArrayVec<u8, N>
             lines::count(mesh::name(wall.cells, t, 1)),
             lines::count(mesh::name(wall.cells, t, 2)),
         ],
+        out,
     )
 }

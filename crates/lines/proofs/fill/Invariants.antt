@@ -4,7 +4,7 @@ use Rattle.lines.proofs.Filling.{SoFar}
 use Rattle.lines.proofs.fill.Given as goal
 
 abbrev pub invariant-loop-c : goal.invariant-loop-c
-invariant-loop-c g l = SoFar l.template l.numbers g.row.N l.line l.left.rest.now l.rest
+invariant-loop-c l = SoFar l.template l.numbers l.fn.out l.at l.out l.left.rest.now l.rest
 
 abbrev pub decreases-loop-c : goal.decreases-loop-c
-decreases-loop-c g l = length l.rest
+decreases-loop-c l = length l.rest

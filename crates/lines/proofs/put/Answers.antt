@@ -1,6 +1,10 @@
--- `put` meets its contract: `write` says how many bytes it takes.
-use Rattle.std.proofs.lemmas.List.{take_min}
+-- `put` meets its contract: the bytes that there is room for are copied.
+use Rattle.std.proofs.Common.{◌≡◌, ◌+◌, ◌-◌, arith}
+use Rattle.lines.proofs.Writing.{writes_part}
 use Rattle.lines.proofs.put.Goals as goal
 
 pub returns : goal.returns
-returns g c = rw (take_min _ _) at (rw c.write.ensures.count at c.write.ensures.bytes)
+returns c =
+    let n = c.min-n.result in
+    let many : c.args.at + n - c.args.at ≡ n = omega arith in
+    rw (c.copy_from_slice.ensures.after, many) (writes_part c.args.w.now n c.requires c.min-n.ensures)
