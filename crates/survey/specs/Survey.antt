@@ -13,7 +13,7 @@ use Rattle.del_geo_core.specs.Tri2.{Tri2}
 use Rattle.del_geo_core.specs.declared.tri2.V2.{V2}
 use Rattle.survey.specs.First.{IsFirst}
 use Rattle.survey.specs.declared.Axis.{Axis}
-use Rattle.survey.specs.declared.Axis.TheVariants.{X, Y}
+use Rattle.survey.specs.declared.Axis.TheVariants.{X, Y, Numbered}
 use Rattle.survey.specs.declared.Extent.{Extent}
 use Rattle.survey.specs.declared.Row.{Row}
 use Rattle.survey.specs.declared.Side.{Side}
@@ -108,6 +108,7 @@ row_of Bottom e = record { axis = Y; value = e.y0 }
 abbrev pub index_of : Axis → ℕ
 index_of X = 0
 index_of Y = 1
+index_of (Numbered k) = k
 
 -- THE statement of `in_row`
 abbrev pub in_row : (points : List ℕ) (row : Row) (i : ℕ) → Bool

@@ -36,6 +36,8 @@ pub struct Extent {
 pub enum Axis {
     X,
     Y,
+    // The coordinate of this number, z being 2; there is none of 3 and above, and no point's is equal to it.
+    Numbered(usize),
 }
 
 // The points whose coordinate along the axis is the value.
@@ -134,6 +136,7 @@ impl Axis {
         match self {
             Axis::X => 0,
             Axis::Y => 1,
+            Axis::Numbered(k) => k,
         }
     }
 }
