@@ -1,7 +1,8 @@
 -- What each refusal number means, in words (01-scope 2.1).
-use Rattle.std.specs.Prelude.{cond, List, [], ◌∷◌, ℕ, eqb}
+use Rattle.std.specs.Prelude.{cond, List, [], ◌∷◌, ◌++◌, ℕ, eqb, decimal}
 use Rattle.float.specs.Text.{ascii}
 use Rattle.refusal.specs.Refusal.{accepted, bad_length, bad_name, bad_input, bad_stiffness, turned, zero_divisor, bad_answer, bad_file}
+use Rattle.refusal.specs.declared.NoRefusal.{NoRefusal}
 
 -- each number that is given, with its meaning
 abbrev pub meanings : List (ℕ × List ℕ)
@@ -23,3 +24,7 @@ no_meaning = ascii "no number that this version gives"
 unfoldable pub lookup : (rows : List (ℕ × List ℕ)) (number : ℕ) → List ℕ
 lookup [] number = no_meaning
 lookup (row ∷ rows) number = cond (eqb number row.0) row.1 (lookup rows number)
+
+-- what is said of a number that no refusal has
+abbrev pub no_refusal_of : NoRefusal → List ℕ
+no_refusal_of none = ascii "no refusal has the number " ++ decimal none.number

@@ -1,10 +1,10 @@
 // The refusals of 01-scope 2.1, the ladder that picks one, the energy that several kernels answer, and the tests of a panel's or a skin's lists.
 #![tactic(auto)]
 
-ghost use Rattle.std.specs.Prelude.{◌≡◌, cond};
+ghost use Rattle.std.specs.Prelude.{◌≡◌, Some, cond};
 ghost use Rattle.refusal.specs.Refusal.{kernel_number};
 ghost use Rattle.refusal.specs.Numbers.{refusal_number, answer_number, IsNumbered};
-ghost use Rattle.refusal.specs.Meanings.{meanings, lookup};
+ghost use Rattle.refusal.specs.Meanings.{meanings, lookup, no_refusal_of};
 ghost use Rattle.refusal.specs.Answers.{zero_divisor_of, bad_energy_of};
 ghost use Rattle.refusal.specs.Panel.{within_limits, bad_length_of, names_below};
 
@@ -88,12 +88,16 @@ impl TryFrom<u32> for Refusal {
 }
 
 impl fmt::Display for Refusal {
+    ghost output = { λ refusal. Some (lookup meanings (refusal_number refusal)) };
+
     fn fmt<W: fmt::Write>(&self, f: &mut fmt::Formatter<W>) -> fmt::Result {
         f.write_str(self.meaning())
     }
 }
 
 impl fmt::Display for NoRefusal {
+    ghost output = { λ none. Some (no_refusal_of none) };
+
     fn fmt<W: fmt::Write>(&self, f: &mut fmt::Formatter<W>) -> fmt::Result {
         write!(f, "no refusal has the number {}", self.number)
     }
