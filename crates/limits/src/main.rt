@@ -6,7 +6,6 @@
 ghost use Rattle.std.specs.Prelude.{◌+◌, ◌≤◌, length};
 
 use material::Material;
-use refusal::ACCEPTED;
 use std::io;
 
 #[derive(Clone, Copy)]
@@ -101,10 +100,7 @@ fn whole_skin(
     last: usize,
 ) -> io::Result<()> {
     let material = Material::lame(0.0, 0.0, 1.0, 2.0);
-    let (number, place, w) = match skin::wdw(vtx2ini, vtx2def, tri2vtx, material, vtx2dw) {
-        Ok(w) => (ACCEPTED, 0, w),
-        Err(refused) => (refused.refusal.number(), refused.place, 0.0),
-    };
+    let answer = skin::given(skin::wdw(vtx2ini, vtx2def, tri2vtx, material, vtx2dw));
     print!(rt;
         "{} {} {} {} {last} ",
         vtx2ini.len(),
@@ -113,8 +109,10 @@ fn whole_skin(
         vtx2dw.len()
     )?;
     println!(rt;
-        "{number} {place} {:016x} {:016x}",
-        float::to_word(w),
+        "{} {} {:016x} {:016x}",
+        answer.number,
+        answer.place,
+        float::to_word(answer.w),
         sum_bits(vtx2dw)
     )
 }

@@ -55,11 +55,11 @@ pub(crate) fn next_number(stdin: &mut impl io::Read) -> Result<f64, Stop> {
     Ok(float::of_word(next_word(stdin)?))
 }
 
-// The length of a list of the record, which has at most 4,096 entries.
-pub(crate) fn next_length(stdin: &mut impl io::Read) -> Result<usize, Stop>
+// The length that a word says of a list, which has at most 4,096 entries. It is tested when the whole head of its record is read.
+pub(crate) fn length(word: u64) -> Result<usize, Stop>
     ensures { IfOk result (λ n. n ≤ 4096) }
 {
-    let n = next_word(stdin)? as usize;
+    let n = word as usize;
     if n <= 4096 {
         Ok(n)
     } else {

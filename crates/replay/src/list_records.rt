@@ -1,18 +1,30 @@
 // Records with lists, which are as long as the record says (docs/REPLAY.md): masses and whole skins.
-use crate::input::{Stop, fill_names, fill_numbers, next_length, next_material};
+ghost use Rattle.std.specs.Prelude.{◌≤◌};
+
+use crate::input::{Stop, fill_names, fill_numbers, length, next_material, next_word};
 use crate::output;
 use material::Material;
-use refusal::ACCEPTED;
 use std::io;
 
+// The lists are arrays of a function of their own, which is entered when their lengths are known: a function clears what it holds where it is entered, and once more where it makes it later.
 fn put_masses(
     rt: &impl Print,
     stdin: &mut impl io::Read,
-    tri2vtx: &mut [usize],
-    vtx2xy: &mut [f64],
+    n: usize,
+    t: usize,
+    b: usize,
     material: Material,
-    vtx2mass: &mut [f64],
-) -> Result<(), Stop> {
+) -> Result<(), Stop>
+    requires n_bound { n ≤ 4096 }
+    requires t_bound { t ≤ 4096 }
+    requires b_bound { b ≤ 4096 }
+{
+    let mut vtx2xy = [0.0; 4096];
+    let mut tri2vtx = [0usize; 4096];
+    let mut vtx2mass = [0.0; 4096];
+    let vtx2xy = &mut vtx2xy[..n];
+    let tri2vtx = &mut tri2vtx[..t];
+    let vtx2mass = &mut vtx2mass[..b];
     fill_numbers(stdin, vtx2xy)?;
     fill_names(stdin, tri2vtx)?;
     fill_numbers(stdin, vtx2mass)?;
@@ -22,64 +34,60 @@ fn put_masses(
 }
 
 pub(crate) fn replay_masses(rt: &impl Print, stdin: &mut impl io::Read) -> Result<(), Stop> {
-    let n = next_length(stdin)?;
-    let t = next_length(stdin)?;
-    let b = next_length(stdin)?;
+    let n = next_word(stdin)?;
+    let t = next_word(stdin)?;
+    let b = next_word(stdin)?;
     let material = next_material(stdin)?;
-    let mut vtx2xy = [0.0; 4096];
-    let mut tri2vtx = [0usize; 4096];
-    let mut vtx2mass = [0.0; 4096];
-    put_masses(
-        rt,
-        stdin,
-        &mut tri2vtx[..t],
-        &mut vtx2xy[..n],
-        material,
-        &mut vtx2mass[..b],
-    )
+    put_masses(rt, stdin, length(n)?, length(t)?, length(b)?, material)
 }
 
 fn put_skin(
     rt: &impl Print,
     stdin: &mut impl io::Read,
-    vtx2ini: &mut [f64],
-    vtx2def: &mut [f64],
-    tri2vtx: &mut [usize],
+    n: usize,
+    m: usize,
+    t: usize,
+    b: usize,
     material: Material,
-    vtx2dw: &mut [f64],
-) -> Result<(), Stop> {
+) -> Result<(), Stop>
+    requires n_bound { n ≤ 4096 }
+    requires m_bound { m ≤ 4096 }
+    requires t_bound { t ≤ 4096 }
+    requires b_bound { b ≤ 4096 }
+{
+    let mut vtx2ini = [0.0; 4096];
+    let mut vtx2def = [0.0; 4096];
+    let mut tri2vtx = [0usize; 4096];
+    let mut vtx2dw = [0.0; 4096];
+    let vtx2ini = &mut vtx2ini[..n];
+    let vtx2def = &mut vtx2def[..m];
+    let tri2vtx = &mut tri2vtx[..t];
+    let vtx2dw = &mut vtx2dw[..b];
     fill_numbers(stdin, vtx2ini)?;
     fill_numbers(stdin, vtx2def)?;
     fill_names(stdin, tri2vtx)?;
     fill_numbers(stdin, vtx2dw)?;
-    let (number, place, w) = match skin::wdw(vtx2ini, vtx2def, tri2vtx, material, vtx2dw) {
-        Ok(w) => (ACCEPTED, 0, w),
-        Err(refused) => (refused.refusal.number(), refused.place, 0.0),
-    };
-    output::start_line(rt, number)?;
-    output::put_word(rt, place as u64)?;
-    output::put(rt, w)?;
+    let answer = skin::given(skin::wdw(vtx2ini, vtx2def, tri2vtx, material, vtx2dw));
+    output::start_line(rt, answer.number)?;
+    output::put_word(rt, answer.place as u64)?;
+    output::put(rt, answer.w)?;
     output::put_all(rt, vtx2dw)?;
     Ok(())
 }
 
 pub(crate) fn replay_skin(rt: &impl Print, stdin: &mut impl io::Read) -> Result<(), Stop> {
-    let n = next_length(stdin)?;
-    let m = next_length(stdin)?;
-    let t = next_length(stdin)?;
-    let b = next_length(stdin)?;
+    let n = next_word(stdin)?;
+    let m = next_word(stdin)?;
+    let t = next_word(stdin)?;
+    let b = next_word(stdin)?;
     let material = next_material(stdin)?;
-    let mut vtx2ini = [0.0; 4096];
-    let mut vtx2def = [0.0; 4096];
-    let mut tri2vtx = [0usize; 4096];
-    let mut vtx2dw = [0.0; 4096];
     put_skin(
         rt,
         stdin,
-        &mut vtx2ini[..n],
-        &mut vtx2def[..m],
-        &mut tri2vtx[..t],
+        length(n)?,
+        length(m)?,
+        length(t)?,
+        length(b)?,
         material,
-        &mut vtx2dw[..b],
     )
 }

@@ -8,10 +8,10 @@ ghost use Rattle.refusal.specs.Answers.{energy_given};
 ghost use Rattle.corners.specs.Space.{corners_of};
 ghost use Rattle.places.specs.Places.{added_to};
 ghost use Rattle.places.specs.Space.{point_at, corners_at};
-ghost use Rattle.skin.specs.Skin.{bad_length_of, bad_sum_of, early_of, answer_of, skin_given, IsSkin};
+ghost use Rattle.skin.specs.Skin.{bad_length_of, bad_sum_of, early_of, answer_of, skin_given, IsGiven, IsSkin};
 
 use material::Material;
-use refusal::{Energy, Refusal};
+use refusal::{ACCEPTED, Energy, Refusal};
 use vec3::V3;
 
 // Why a skin is refused, and where: the place in the list of the triangle that is, counted from 0; how many triangles there are where only a sum is; 0 for lengths and names.
@@ -19,6 +19,31 @@ use vec3::V3;
 pub struct Refused {
     pub refusal: Refusal,
     pub place: usize,
+}
+
+// An answer as numbers alone, for what prints it: the energy with 0 and no place, or a refusal's number and place with +0.
+#[derive(Clone, Copy, Debug, PartialEq)]
+pub struct Numbers {
+    pub number: u32,
+    pub place: usize,
+    pub w: f64,
+}
+
+pub fn given(answer: Result<f64, Refused>) -> Numbers
+    ensures { IsGiven binary64 answer result }
+{
+    match answer {
+        Ok(w) => Numbers {
+            number: ACCEPTED,
+            place: 0,
+            w,
+        },
+        Err(refused) => Numbers {
+            number: refused.refusal.number(),
+            place: refused.place,
+            w: 0.0,
+        },
+    }
 }
 
 // From the lists' lengths.
