@@ -1,8 +1,10 @@
 -- No second answer fits a statement of this crate: each is an equation with a definition.
 use mathlib.Core.Path.{◌≡◌}
 use mathlib.Core.List.{List}
+use Prim.Native.Nat.{ℕ}
 use lib.Ieee.{Float, Format}
 use Rattle.float.proofs.Unique.{only}
+use Rattle.float.specs.Lists.{◌!◌}
 use Rattle.del_geo_core.specs.declared.mat3_row_major.Matrix3.{Matrix3}
 use Rattle.del_geo_core.specs.Tri3.{Tri3}
 use Rattle.vec3.specs.declared.V3.{V3}
@@ -18,6 +20,10 @@ module _ (f : Format) where
   -- `t0s`
   pub t0 : {r q : List Float} → r ≡ t0s f → q ≡ t0s f → r ≡ q
   t0 = only
+
+  -- each of the two
+  pub t0_at : (i : ℕ) {r q : Float} → r ≡ t0s f ! i → q ≡ t0s f ! i → r ≡ q
+  t0_at i = only
 
   pub dstrain : (gd : Matrix3) (thk t0 : Float) {r q : List (List Float)} → r ≡ dstrain_of f gd thk t0 → q ≡ dstrain_of f gd thk t0 → r ≡ q
   dstrain gd thk t0 = only
