@@ -12,7 +12,7 @@ use Rattle.std.proofs.lemmas.List.{drop_min, get_or-drop}
 use borrow.Author.Tests.{ne_eqb}
 use Rattle.float.specs.Lists.{◌!◌}
 use Rattle.lines.specs.Filled.{digit_of, shown_of, field_of, filled_from, filled_of, Writes, IsFilled}
-use Rattle.lines.proofs.Writing.{writes_none, writes_append, within, same_length}
+use Rattle.lines.proofs.Writing.{writes_none, writes_append, within}
 
 pub nothing : {X : Type 0} (l : List X) → length l ≡ 0 → l ≡ []
 nothing [] e = refl
@@ -54,9 +54,6 @@ begun template numbers before all = record { text = []; j = 0; written = writes_
 module _ {template : List ℕ} {numbers : List Float} {before : List ℕ} {at : ℕ} {now : List ℕ} {left : List Float} {rest : List ℕ} (s : SoFar template numbers before at now left rest) where
   pub room : at ≤ length now
   room = within s.written
-
-  pub as_long : length now ≡ length before
-  as_long = same_length s.written
 
   further : (w rest' : List ℕ) (left' : List Float) (j : ℕ) {r : ℕ} {after : List ℕ} → Writes w at now r after → left' ≡ drop j numbers
       → filled_from numbers s.j 0 rest ≡ w ++ filled_from numbers j 0 rest' → SoFar template numbers before r after left' rest'

@@ -1,4 +1,5 @@
-// The lines that `wall` prints, from the blocks of a wall's file and its masses: each as a template with its numbers put in (docs/WALL.md).
+// The lines that `wall` prints, from the blocks of a wall's file and its masses: each as a template with its numbers put in (docs/WALL.md),
+// in a lent buffer of any length, as `lines::fill` takes it.
 #![tactic(auto)]
 
 ghost use Rattle.std.specs.Prelude.{◌≡◌};
