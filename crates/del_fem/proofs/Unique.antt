@@ -7,7 +7,7 @@ use lib.Ieee.{Float, Format}
 use Rattle.float.proofs.Unique.{only}
 use Rattle.values.proofs.Unique.{same}
 use Rattle.material.specs.declared.Material.{Material}
-use Rattle.skin.specs.Skin.{SkinGiven}
+use Rattle.skin.specs.declared.SkinGiven.{SkinGiven}
 use Rattle.skin.proofs.SkinAnswer.{unique}
 use Rattle.std.specs.Prelude.{Result}
 use Rattle.mesh.specs.declared.Mesh.{Mesh}

@@ -33,7 +33,8 @@ use Rattle.mitc_tri3.specs.Plate as plates
 use Rattle.masses.specs.Masses.{masses_of}
 use Rattle.mitc_tri3.specs.Masses.{Sound, SomeTurned, rows_of, IsMasses}
 use Rattle.skin.specs.Sums.{energy_of, gradient_of, numbers_of}
-use Rattle.skin.specs.Skin.{SkinGiven, answer_of, early_of, late_of, IsSkin}
+use Rattle.skin.specs.declared.SkinGiven.{SkinGiven}
+use Rattle.skin.specs.Skin.{answer_of, early_of, late_of, IsSkin}
 use Rattle.mesh.specs.Mesh.{mesh_of, number_of}
 use Rattle.mesh.specs.Writer.{fit_in, Content, Valid, Written, encode}
 use Rattle.mesh.specs.declared.Mesh.{Mesh}

@@ -12,7 +12,8 @@ use Rattle.float.proofs.Bits.{zero_is}
 use Rattle.float.proofs.Scan.{every_same}
 use Rattle.refusal.specs.Refusal.{accepted}
 use Rattle.skin.specs.Sums.{Kernel, energy_of, gradient_of}
-use Rattle.skin.specs.Skin.{SkinGiven, bad_length_of, bad_sum_of, IsSkinOver}
+use Rattle.skin.specs.declared.SkinGiven.{SkinGiven}
+use Rattle.skin.specs.Skin.{bad_length_of, bad_sum_of, IsSkinOver}
 use Rattle.skin.proofs.SkinAnswer.{numbers_exactly, accepted_sums}
 
 zero_finite : (f : Format) → finite (ops f).zero ≡ true

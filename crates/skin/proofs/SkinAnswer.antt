@@ -1,6 +1,6 @@
 -- What a call over a list of triangles answers, in the scope's words, whatever the kernel is: one answer fits; each number is given, and for which place, exactly where its cause comes
 -- first; and what the energy and the buffer are after each. `IsSkin` is the instance of StVK, whose numbers are above 2. And what is known of the lengths where they are right.
-use mathlib.Core.Path.{◌≡◌, refl, sym, ◌∙◌, ap}
+use mathlib.Core.Path.{◌≡◌, refl, ap}
 use mathlib.Core.Bool.{false, not, cond, ◌||◌}
 use mathlib.Core.List.{List}
 use mathlib.Core.Logic.{◌↔◌}
@@ -30,10 +30,10 @@ use Rattle.refusal.proofs.ListedNumber.{listed_exactly, early_exactly}
 use Rattle.material.specs.declared.Material.{Material}
 use Rattle.material.specs.declared.Stiffness.{Stiffness}
 use Rattle.stvk_tri3.specs.Stvk.{stvk_of}
-use Rattle.skin.specs.declared.Numbers.{Numbers}
 use Rattle.skin.specs.declared.Refused.{Refused}
 use Rattle.skin.specs.Sums.{Kernel, numbers_of, energy_of, gradient_of}
-use Rattle.skin.specs.Skin.{IsGiven, SkinGiven, skin_given, bad_length_of, early_of, late_of, keeps, skin_of, answer_of, IsSkinOver, IsSkin}
+use Rattle.skin.specs.declared.SkinGiven.{SkinGiven}
+use Rattle.skin.specs.Skin.{skin_given, bad_length_of, early_of, late_of, keeps, skin_of, answer_of, IsSkinOver, IsSkin}
 
 -- a number that an answer is refused with is none of lengths and names
 abbrev pub Above : Kernel → Type 0
@@ -49,8 +49,8 @@ pub unique : (f : Format) (vtx2ini vtx2def : List Float) (tri2vtx : List ℕ) (m
 unique f vtx2ini vtx2def tri2vtx m before a b = let e = only a.0 b.0 in (e, only a.1 (rw e b.1))
 
 -- nor a second answer of `given`
-pub given : (f : Format) (answer : Result Float Refused) {r q : Numbers} → IsGiven f answer r → IsGiven f answer q → r ≡ q
-given f answer {r} {q} a b = ap (λ (s : SkinGiven). let g : Numbers = record { number = s.number; place = s.place; w = s.w } in g) (sym a ∙ b)
+pub given : (f : Format) (answer : Result Float Refused) {r q : SkinGiven} → r ≡ skin_given f answer → q ≡ skin_given f answer → r ≡ q
+given f answer = only
 
 -- nor does a second result
 given_once : (f : Format) (r q : Result Float Refused) → skin_given f r ≡ skin_given f q → r ≡ q

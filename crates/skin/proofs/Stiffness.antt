@@ -18,7 +18,8 @@ use Rattle.material.specs.declared.Material.{Material}
 use Rattle.material.specs.declared.Stiffness.{Stiffness}
 use Rattle.stvk_tri3.specs.Stvk.{tests_of, stvk_of}
 use Rattle.skin.specs.Sums.{Kernel, numbers_of}
-use Rattle.skin.specs.Skin.{SkinGiven, answer_of, IsSkin, FirstBad}
+use Rattle.skin.specs.declared.SkinGiven.{SkinGiven}
+use Rattle.skin.specs.Skin.{answer_of, IsSkin, FirstBad}
 use Rattle.skin.proofs.SkinAnswer.{unique, early, late, numbers_exactly}
 
 -- density and thickness are not looked at: whatever they are, NaNs too, the answer is one

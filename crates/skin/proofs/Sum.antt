@@ -25,7 +25,8 @@ use Rattle.places.specs.Places.{added_of}
 use Rattle.places.specs.Space.{point_at}
 use Rattle.places.proofs.Places.{added, triangle_length}
 use Rattle.skin.specs.Sums.{Kernel, numbers_of, add_energy, add_gradient, energy_of, gradient_of}
-use Rattle.skin.specs.Skin.{SkinGiven, bad_length_of, bad_sum_of, early_of, late_of, skin_of, IsSkinOver}
+use Rattle.skin.specs.declared.SkinGiven.{SkinGiven}
+use Rattle.skin.specs.Skin.{bad_length_of, bad_sum_of, early_of, late_of, skin_of, IsSkinOver}
 use Rattle.skin.specs.Parts.{refused_of}
 use Rattle.skin.proofs.SkinAnswer.{Above, count, numbers_exactly, sized}
 

@@ -14,7 +14,8 @@ use Rattle.places.specs.Places.{component}
 use Rattle.places.specs.Vertex.{given_to}
 use Rattle.places.proofs.Vertex.{added_holds, unnamed}
 use Rattle.skin.specs.Sums.{Kernel, part_of, add_energy, add_gradient, energy_of, gradient_of}
-use Rattle.skin.specs.Skin.{SkinGiven, IsSkinOver}
+use Rattle.skin.specs.declared.SkinGiven.{SkinGiven}
+use Rattle.skin.specs.Skin.{IsSkinOver}
 use Rattle.skin.proofs.SkinAnswer.{numbers_exactly, accepted_sums, sized}
 
 module _ (f : Format) (answer : Kernel) (ini def : ℕ) (tri2vtx : List ℕ) (before : List Float) {r : SkinGiven} {after : List Float}

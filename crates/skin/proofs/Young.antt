@@ -20,7 +20,8 @@ use Rattle.places.specs.Space.{corners_at}
 use Rattle.stvk_tri3.specs.Stvk.{divisor_is_zero, numbers_of as stvk_numbers}
 use Rattle.stvk_tri3.proofs.EnergyAnswer.{young_stvk, stvk_taken}
 use Rattle.skin.specs.Sums.{Kernel, numbers_of, energy_of, gradient_of}
-use Rattle.skin.specs.Skin.{SkinGiven, early_of, late_of, skin_of, answer_of, IsSkinOver, IsSkin}
+use Rattle.skin.specs.declared.SkinGiven.{SkinGiven}
+use Rattle.skin.specs.Skin.{early_of, late_of, skin_of, answer_of, IsSkinOver, IsSkin}
 use Rattle.skin.specs.Parts.{refused_of}
 use Rattle.skin.proofs.Stiffness.{seven_bad, taken_good}
 

@@ -17,23 +17,13 @@ use Rattle.places.specs.Space.{corners_at}
 use Rattle.stvk_tri3.specs.Stvk.{stvk_of}
 use Rattle.skin.specs.Sums.{Kernel, numbers_of, energy_of, gradient_of}
 use Rattle.refusal.specs.Numbers.{refusal_number}
-use Rattle.skin.specs.declared.Numbers.{Numbers}
+use Rattle.skin.specs.declared.SkinGiven.{SkinGiven}
 use Rattle.skin.specs.declared.Refused.{Refused}
 
--- what is given: the number, the place and the energy
-pub record SkinGiven : Type 0 where
-  pub number : ℕ
-  pub place : ℕ
-  pub w : Float
-
--- for an answer: the energy with 0 and no place; after a refusal its number and its place, and +0
+-- THE statement of `given`: for an answer the energy with 0 and no place; after a refusal its number and its place, and +0
 abbrev pub skin_given : (f : Format) → Result Float Refused → SkinGiven
 skin_given f (Ok w) = record { number = accepted; place = 0; w = w }
 skin_given f (Err refused) = record { number = refusal_number refused.refusal; place = refused.place; w = (ops f).zero }
-
--- THE statement of `given`
-abbrev pub IsGiven : (f : Format) → Result Float Refused → Numbers → Type 0
-IsGiven f answer r = skin_given f answer ≡ record { number = r.number; place = r.place; w = r.w }
 
 -- from the lengths of the lists: a limit is passed; or points at rest, deformed points and gradient differ in length; or 3 does not divide it
 unfoldable pub bad_length_of : (ini def names places : ℕ) → Bool

@@ -8,7 +8,7 @@ ghost use Rattle.refusal.specs.Answers.{energy_given};
 ghost use Rattle.corners.specs.Space.{corners_of};
 ghost use Rattle.places.specs.Places.{added_to};
 ghost use Rattle.places.specs.Space.{point_at, corners_at};
-ghost use Rattle.skin.specs.Skin.{bad_length_of, bad_sum_of, early_of, answer_of, skin_given, IsGiven, IsSkin};
+ghost use Rattle.skin.specs.Skin.{bad_length_of, bad_sum_of, early_of, answer_of, skin_given, IsSkin};
 
 use material::Material;
 use refusal::{ACCEPTED, Energy, Refusal};
@@ -21,24 +21,25 @@ pub struct Refused {
     pub place: usize,
 }
 
-// An answer as numbers alone, for what prints it: the energy with 0 and no place, or a refusal's number and place with +0.
+// What is given for an answer: its number, its place and its energy.
 #[derive(Clone, Copy, Debug, PartialEq)]
-pub struct Numbers {
+pub struct SkinGiven {
     pub number: u32,
     pub place: usize,
     pub w: f64,
 }
 
-pub fn given(answer: Result<f64, Refused>) -> Numbers
-    ensures { IsGiven binary64 answer result }
+// The energy with 0 and no place; after a refusal its number and its place, and +0.
+pub fn given(answer: Result<f64, Refused>) -> SkinGiven
+    ensures { result ≡ skin_given binary64 answer }
 {
     match answer {
-        Ok(w) => Numbers {
+        Ok(w) => SkinGiven {
             number: ACCEPTED,
             place: 0,
             w,
         },
-        Err(refused) => Numbers {
+        Err(refused) => SkinGiven {
             number: refused.refusal.number(),
             place: refused.place,
             w: 0.0,
